@@ -1,24 +1,28 @@
 -- The lines of schedules, one after another, and the ends of a run.
-use Rattle.std.proofs.Common.{◌≡◌, ℕ, Bool, List, [], ◌++◌, Option, Some, None, Result, Ok, Err, true, false, refl, sym, ap, ◌∙◌, subst, append_assoc}
+use Rattle.std.proofs.Common.{◌≡◌, ℕ, Bool, List, [], ◌∷◌, ◌++◌, Option, Some, None, Result, Ok, Err, true, false, refl, sym, ap, ◌∙◌, subst, append_assoc, inl, inr}
 use Rattle.std.specs.Prelude.{IfSome, option_map}
-use Rattle.octet_writer.specs.Writes.{AppendsFront, Sent}
-use Rattle.octet_writer.proofs.Fronts.{Appends-append, Appends-nil, sent_all, sent_none}
+use Rattle.std.specs.Io.KnownBytes.{Appends, Keeps}
+use Rattle.octet_writer.specs.Writes.{FallsShort}
+use Rattle.octet_writer.proofs.Fronts.{Appends-nil, sent_all, sent_none}
 use Rattle.words.specs.Words.{words_of}
-use Rattle.line_reader.specs.Script.{Script, End, Line, script_of}
+use Rattle.line_reader.specs.Script.{Script, End, Broken, Line, script_of}
 use Rattle.line_reader.specs.LineReader.{Advances}
 use Rattle.line_reader.specs.declared.lines.LineFault.{LineFault}
 use Rattle.line_reader.specs.declared.lines.LineFault.TheVariants as LineFaults
 use Rattle.abstract_port.specs.declared.Command.{Command}
-use Rattle.job.specs.Outcome.{Outcome, Runs}
+use Rattle.job.specs.Outcome.{Outcome, Runs, RunsOut}
+use Rattle.job.specs.RunEnd.{IsOrFails}
+use Rattle.job.proofs.RunEndLaws.{out_of_inputs}
 use Rattle.job.specs.declared.fault.Fault.{Fault}
 use Rattle.job.specs.declared.fault.Fault.TheVariants as Faults
-use Rattle.job.proofs.LineLaws.{Goes, behind, faulty, goes_no_further}
+use Rattle.job.proofs.LineLaws.{Goes, behind, begun, faulty, goes_kept, goes_no_further, goes_on, goes_past, goes_wrong}
 use Rattle.schedule_check.specs.Checked.{is_command}
 use Rattle.script.specs.declared.faults.ScriptFault.{ScriptFault}
-use Rattle.stream_bounds.specs.BoundLines.{command_answered, command_lines, joined}
+use Rattle.stream_bounds.specs.BoundLines.{AreCommandAnswers, command_answered, command_lines, joined}
 use Rattle.stream_bounds.specs.Faults.{limited_behind, schedules_fault, schedules_limited}
-use Rattle.stream_bounds.specs.Outcome.{begun_with, bounds_in, end_fault, found_in_all, outcome_in, outcome_of, outcome_unless, periodic, told_if, with_command}
-use Rattle.stream_bounds.specs.TableRead.{IsEnd, ReadsTable, Tells}
+use Rattle.stream_bounds.specs.Outcome.{AreAnswers, AreLineAnswers, AreTableAnswers, IsBounded, IsOutcome, begun_with, behind_lines, bounds_in, end_fault, found_in_all, outcome_in, outcome_unless, periodic, told_if, with_answers, with_command}
+use Rattle.stream_bounds.specs.TableRead.{IsEnd, ReadsTable, RunsLines, Tells, TellsLine, may_stop}
+use Rattle.stream_bounds.specs.Verdicts.{ClassAnswer}
 use Rattle.stream_bounds.specs.declared.faults.Answered.{Answered}
 use Rattle.stream_bounds.specs.declared.faults.BoundsInput.{BoundsInput}
 use Rattle.stream_bounds.specs.declared.faults.BoundsInput.TheVariants as Inputs
@@ -28,142 +32,346 @@ use Rattle.tc_reader.specs.declared.fault.TcFault.{TcFault}
 use Rattle.traffic.specs.Table.{Table, table_by}
 use Rattle.traffic.specs.declared.table.Stream.{Stream}
 
--- a prefix of the next part
-front_on : {a b : Option (List ℕ)} {text left : List ℕ} (c : Option (List ℕ)) (x rest : List ℕ) → Sent a b text left → left ≡ x ++ rest → AppendsFront b c x → AppendsFront a c text
-front_on {a} {b} c x rest s e (back, t) = (
-  back ++ rest,
-  record {
-    done = s.done ++ t.done;
-    appended = Appends-append a b c s.done t.done s.appended t.appended;
-    parts = s.parts ∙ ap (λ u. s.done ++ u) (e ∙ ap (λ u. u ++ rest) t.parts ∙ append_assoc t.done back rest) ∙ sym (append_assoc s.done t.done (back ++ rest));
-  },
-)
+-- answers about all classes, for one line after another
+abbrev pub Known : Type 0
+Known = List (List ClassAnswer)
 
 module _ (read : List (List ℕ) → Result Command TcFault) (s : BoundsSettings) (streams : List Stream) where
-  -- what is answered about lines, behind what was answered so far
-  abbrev pub bounded : Answered → Script → Outcome BoundsInput
-  bounded so_far script = bounds_in read s streams so_far script
+  -- what is answered about lines, behind what was answered so far, by the answers that they ask for
+  abbrev pub bounded : Answered × Known → Script → Outcome BoundsInput
+  bounded state script = bounds_in read s streams state.0 state.1 script
+
+  -- answers that the lines to come ask for
+  abbrev pub AreLater : Bool → Known → Option Script → Type 0
+  AreLater short later None = Unit {0}
+  AreLater short later (Some script) = AreAnswers short read s streams later script
+
+  -- where nothing is known of any line
+  pub none_known : (script : Script) → AreAnswers true read s streams [] script
+  none_known End = refl
+  none_known (Broken number limit) = refl
+  none_known (Line number octets rest) = by (is_command false (words_of octets)) (none_known rest)
+    where
+      by : (is : Result Bool ScriptFault) → AreAnswers true read s streams [] rest
+          → AreLineAnswers is true s streams (read (words_of octets)) [] (λ later. AreAnswers true read s streams later rest)
+      by (Err fault) more = refl
+      by (Ok false) more = more
+      by (Ok true) more = refl
+
+  -- answers of all lines are those of the first ones, too
+  pub also_short : (short : Bool) (script : Script) (answers : Known) → AreAnswers short read s streams answers script → AreAnswers true read s streams answers script
+  also_short short End answers r = r
+  also_short short (Broken number limit) answers r = r
+  also_short short (Line number octets rest) answers r = by (is_command false (words_of octets)) answers (also_short short rest) r
+    where
+      by : (is : Result Bool ScriptFault) (answers : Known) → ((later : Known) → AreAnswers short read s streams later rest → AreAnswers true read s streams later rest)
+          → AreLineAnswers is short s streams (read (words_of octets)) answers (λ later. AreAnswers short read s streams later rest)
+          → AreLineAnswers is true s streams (read (words_of octets)) answers (λ later. AreAnswers true read s streams later rest)
+      by (Err fault) answers more r = r
+      by (Ok false) answers more r = more answers r
+      by (Ok true) [] more r = refl
+      by (Ok true) (now ∷ later) more (right, r) = (right, more later r)
+
+  -- What was written so far is by answers that are right, whatever right ones are behind them.
+  pub record IsWritten (all : Option Script) (old now : Option (List ℕ)) (so_far : Answered) (left : Option Script) : Type 0 where
+    pub known : Known
+    pub right : (short : Bool) (later : Known) → AreLater short later left → AreLater short (known ++ later) all
+    pub goes : (later : Known) → Goes schedules_limited bounded (begun_with streams, known ++ later) all old now (so_far, later) left
+
+  -- nothing is written
+  pub begins : (all : Option Script) (old : Option (List ℕ)) → IsWritten all old old (begun_with streams) all
+  begins all old = record {
+    known = [];
+    right = λ short later r. r;
+    goes = λ later. begun schedules_limited bounded (begun_with streams, later) all old;
+  }
 
   module _ (number : ℕ) (line : List ℕ) (so_far : Answered) where
     -- what was answered behind the line
-    abbrev pub with_line : Answered
-    with_line = joined so_far (command_answered number s streams (read (words_of line)))
+    abbrev pub with_line : List ClassAnswer → Answered
+    with_line answers = joined so_far (command_answered number s streams (read (words_of line)) answers)
 
-    by_command : (is : Result Bool ScriptFault) → is_command false (words_of line) ≡ is → (rest : Script)
-        → bounded so_far (Line number line rest) ≡ with_command (told_if s.strict so_far.finding) number is (command_lines s streams (read (words_of line))) (bounded so_far rest) (bounded with_line rest)
-    by_command is e rest = ap (λ x. with_command (told_if s.strict so_far.finding) number x (command_lines s streams (read (words_of line))) (bounded so_far rest) (bounded with_line rest)) e
+    -- the line, by what it is
+    by_command : (is : Result Bool ScriptFault) → is_command false (words_of line) ≡ is → (later : Known) (rest : Script)
+        → bounded (so_far, later) (Line number line rest)
+        ≡ with_command (told_if s.strict so_far.finding) number is (bounded (so_far, later) rest)
+        (with_answers later (λ now more. behind_lines (command_lines s streams (read (words_of line)) now) (bounded (with_line now, more) rest)))
+    by_command is e later rest =
+        ap (λ x. with_command (told_if s.strict so_far.finding) number x (bounded (so_far, later) rest)
+        (with_answers later (λ now more. behind_lines (command_lines s streams (read (words_of line)) now) (bounded (with_line now, more) rest)))) e
 
-    pub skipped : is_command false (words_of line) ≡ Ok false → (rest : Script) → bounded so_far (Line number line rest) ≡ bounded so_far rest
-    skipped = by_command (Ok false)
+    -- the answers that it asks for, by what it is
+    asks : (short : Bool) (is : Result Bool ScriptFault) → is_command false (words_of line) ≡ is → (later : Known) (rest : Script)
+        → AreLineAnswers is short s streams (read (words_of line)) later (λ more. AreAnswers short read s streams more rest)
+        → AreAnswers short read s streams later (Line number line rest)
+    asks short is e later rest h =
+        let P : Result Bool ScriptFault → Type 0 = λ x. AreLineAnswers x short s streams (read (words_of line)) later (λ more. AreAnswers short read s streams more rest) in
+        subst P (sym e) h
 
-    pub answered : is_command false (words_of line) ≡ Ok true → (rest : Script) → bounded so_far (Line number line rest) ≡ behind (command_lines s streams (read (words_of line))) (bounded with_line rest)
-    answered = by_command (Ok true)
+    module _ (all : Option Script) (old now : Option (List ℕ)) where
+      -- it is no command's
+      pub past : (left t : Option Script) → IsWritten all old now so_far left → Advances left (Ok true) number line t
+          → is_command false (words_of line) ≡ Ok false → IsWritten all old now so_far t
+      past left t w a e = record {
+        known = w.known;
+        right = λ short later r. w.right short later (before left short later a r);
+        goes = λ later. goes_past schedules_limited bounded number line (begun_with streams, w.known ++ later) (so_far, later) old now (so_far, later) all left t (w.goes later) a (by_command (Ok false) e later);
+      }
+        where
+          before : (left : Option Script) (short : Bool) (later : Known) → Advances left (Ok true) number line t → AreLater short later t → AreLater short later left
+          before None short later a r = tt
+          before (Some script) short later (rest, new, is) r =
+              let r : AreAnswers short read s streams later rest = subst (λ (o : Option Script). AreLater short later o) new r in
+              subst (λ (x : Script). AreAnswers short read s streams later x) (sym is) (asks short (Ok false) e later rest r)
 
-    pub wrong : (fault : ScriptFault) → is_command false (words_of line) ≡ Err fault → (rest : Script)
-        → bounded so_far (Line number line rest) ≡ faulty (Inputs.Schedules (told_if s.strict so_far.finding) number fault)
-    wrong fault = by_command (Err fault)
+      -- it is answered
+      pub on : (left t : Option Script) (new : Option (List ℕ)) (answers : List ClassAnswer) → IsWritten all old now so_far left → Advances left (Ok true) number line t
+          → is_command false (words_of line) ≡ Ok true → AreCommandAnswers s streams (read (words_of line)) answers
+          → Appends now new (command_lines s streams (read (words_of line)) answers) → IsWritten all old new (with_line answers) t
+      on left t new answers w a e right wrote = record {
+        known = w.known ++ answers ∷ [];
+        right = λ short later r.
+            subst (λ (known : Known). AreLater short known all) (sym (append_assoc w.known (answers ∷ []) later)) (w.right short (answers ∷ later) (before left short later a r));
+        goes = λ later.
+            subst (λ (known : Known). Goes schedules_limited bounded (begun_with streams, known) all old new (with_line answers, later) t) (sym (append_assoc w.known (answers ∷ []) later))
+            (goes_on schedules_limited bounded number line (begun_with streams, w.known ++ answers ∷ later) (so_far, answers ∷ later) old now (with_line answers, later) new (command_lines s streams (read (words_of line)) answers) all left t (w.goes (answers ∷ later)) a (by_command (Ok true) e (answers ∷ later)) wrote);
+      }
+        where
+          before : (left : Option Script) (short : Bool) (later : Known) → Advances left (Ok true) number line t → AreLater short later t → AreLater short (answers ∷ later) left
+          before None short later a r = tt
+          before (Some script) short later (rest, new, is) r =
+              let r : AreAnswers short read s streams later rest = subst (λ (o : Option Script). AreLater short later o) new r in
+              subst (λ (x : Script). AreAnswers short read s streams (answers ∷ later) x) (sym is) (asks short (Ok true) e (answers ∷ later) rest (right, r))
 
-  -- a line can't be answered whole
-  pub stops_short : (number : ℕ) (line : List ℕ) (first state next : Answered) (old now new : Option (List ℕ)) (text : List ℕ) (told : Answered) (fault : Fault BoundsInput) (all left t : Option Script)
-      → Goes schedules_limited bounded first all old now state left → Advances left (Ok true) number line t
-      → ((rest : Script) → bounded state (Line number line rest) ≡ behind text (bounded next rest)) → Tells (Err fault) now new text told
-      → IfSome all (λ script. Runs {T = Unit {0}} (Err fault) old new (bounded first script))
-  stops_short number line first state next old now new text told (Faults.Input fault) all left t g a e w = absurd w
-  stops_short number line first state next old now new text told Faults.Read all left t g a e w = absurd w
-  stops_short number line first state next old now new text told Faults.Write all left t g a e w =
-      goes_no_further schedules_limited bounded number line first state old now {T = Unit {0}} next new text all left t g a e w refl
-  stops_short number line first state next old now new text told Faults.Memory None left t g a e w = tt
-  stops_short number line first state next old now new text told Faults.Memory (Some all) None t g a e w = absurd g
-  stops_short number line first state next old now new text told Faults.Memory (Some all) (Some script) t g (rest, left, is) e w =
-      let same = ap (bounded state) is ∙ e rest in
-      front_on new text _ g.0 (ap (λ x. x.text) same) w
+      -- it has a fault
+      pub wrong : {f : Result (Unit {0}) (Fault BoundsInput)} (fault : ScriptFault) (left t : Option Script) → IsWritten all old now so_far left → Advances left (Ok true) number line t
+          → is_command false (words_of line) ≡ Err fault → f ≡ Err (Faults.Input (Inputs.Schedules (told_if s.strict so_far.finding) number fault))
+          → IfSome all (λ script. RunsLines f read s streams script old now)
+      wrong {f} fault left t w a e h =
+          let P : Result (Unit {0}) (Fault BoundsInput) → Type 0 = λ x. IfSome all (λ script. RunsLines x read s streams script old now) in
+          subst P (sym h) (by all left (w.known ++ []) (λ r. w.right false [] r) (w.goes []) a)
+        where
+          by : (all left : Option Script) (known : Known) → (AreLater false [] left → AreLater false known all)
+              → Goes schedules_limited bounded (begun_with streams, known) all old now (so_far, []) left → Advances left (Ok true) number line t
+              → IfSome all (λ script. RunsLines (Err (Faults.Input (Inputs.Schedules (told_if s.strict so_far.finding) number fault))) read s streams script old now)
+          by None left known right g a = tt
+          by (Some script) None known right g a = absurd g
+          by (Some script) (Some lines) known right g (rest, new, is) = record {
+            answers = known;
+            right = right (subst (λ (x : Script). AreAnswers false read s streams [] x) (sym is) (asks false (Err fault) e [] rest refl));
+            is = goes_wrong schedules_limited bounded number line (begun_with streams, known) (so_far, []) old now {T = Unit {0}} (Inputs.Schedules (told_if s.strict so_far.finding) number fault) (Some script) (Some lines) t g (rest, new, is) (by_command (Err fault) e []) refl;
+          }
 
-  -- the lines stop, where this was found before and is told
-  pub stops_behind : {f : Result (Unit {0}) (Fault BoundsInput)} (number : ℕ) (line : List ℕ) (first state : Answered) (old now : Option (List ℕ)) (found : Option Finding) (fault : LineFault) (all left t : Option Script)
-      → Goes schedules_limited bounded first all old now state left → Advances left (Err fault) number line t → found ≡ told_if s.strict state.finding → f ≡ Err (schedules_fault found fault)
-      → IfSome all (λ script. Runs f old now (bounded first script))
-  stops_behind number line first state old now found fault None left t g a is h = tt
-  stops_behind number line first state old now found fault (Some all) None t g a is h = absurd g
-  stops_behind {f} number line first state old now found (LineFaults.Limit n limit) (Some all) (Some script) t g a is h =
-      let same : bounded state script ≡ faulty (limited_behind found n limit) = ap (bounded state) a ∙ ap (λ (o : Option Finding). faulty (limited_behind o n limit)) (sym is) in
-      let P : Result (Unit {0}) (Fault BoundsInput) → Type 0 = λ x. Runs x old now (bounded first all) in
-      subst P (sym h) (g.1 ∙ ap (λ x. x.fault) same, sent_all g.0 (ap (λ x. x.text) same))
-  stops_behind {f} number line first state old now found LineFaults.Read (Some all) (Some script) t g a is h =
-      let P : Result (Unit {0}) (Fault BoundsInput) → Type 0 = λ x. Runs x old now (bounded first all) in
-      subst P (sym h) ((bounded state script).text, g.0)
+      -- it can't be answered whole
+      pub short : (fault : Fault BoundsInput) (left t : Option Script) (new : Option (List ℕ)) → IsWritten all old now so_far left → Advances left (Ok true) number line t
+          → is_command false (words_of line) ≡ Ok true → TellsLine (Err fault) number s streams (read (words_of line)) now new
+          → IfSome all (λ script. RunsLines (Err fault) read s streams script old new)
+      short (Faults.Input fault) left t new w a e (answers, right, never) = absurd never
+      short Faults.Read left t new w a e (answers, right, never) = absurd never
+      short Faults.Write left t new w a e (answers, right, wrote) = by all left (w.known ++ answers ∷ []) (λ r. w.right true (answers ∷ []) r) (w.goes (answers ∷ [])) a
+        where
+          by : (all left : Option Script) (known : Known) → (AreLater true (answers ∷ []) left → AreLater true known all)
+              → Goes schedules_limited bounded (begun_with streams, known) all old now (so_far, answers ∷ []) left → Advances left (Ok true) number line t
+              → IfSome all (λ script. RunsLines (Err Faults.Write) read s streams script old new)
+          by None left known right' g a = tt
+          by (Some script) None known right' g a = absurd g
+          by (Some script) (Some lines) known right' g (rest, is_new, is) = record {
+            answers = known;
+            right = right' (subst (λ (x : Script). AreAnswers true read s streams (answers ∷ []) x) (sym is) (asks true (Ok true) e (answers ∷ []) rest (right, none_known rest)));
+            is = goes_no_further schedules_limited bounded number line (begun_with streams, known) (so_far, answers ∷ []) old now {T = Unit {0}} (with_line answers, []) new (command_lines s streams (read (words_of line)) answers) (Some script) (Some lines) t g (rest, is_new, is) (by_command (Ok true) e (answers ∷ [])) wrote refl;
+          }
+      short Faults.Memory left t new w a e kept = by all left (w.known ++ []) (λ r. w.right true [] r) (w.goes [])
+        where
+          by : (all left : Option Script) (known : Known) → (AreLater true [] left → AreLater true known all)
+              → Goes schedules_limited bounded (begun_with streams, known) all old now (so_far, []) left
+              → IfSome all (λ script. RunsLines (Err Faults.Memory) read s streams script old new)
+          by None left known right g = tt
+          by (Some script) None known right g = absurd g
+          by (Some script) (Some lines) known right g =
+              let kept : Goes schedules_limited bounded (begun_with streams, known) (Some script) old new (so_far, []) (Some lines) = goes_kept schedules_limited bounded (begun_with streams, known) (so_far, []) old now new (Some script) (Some lines) g kept in
+              record {
+                answers = known;
+                right = right (none_known lines);
+                is = ((bounded (so_far, []) lines).text, kept.0);
+              }
 
-  -- the lines end
-  pub ends_by : (number : ℕ) (line : List ℕ) (first state : Answered) (old now : Option (List ℕ)) (r : Result (Unit {0}) (Fault BoundsInput)) (told : Option Finding) (all left t : Option Script)
-      → Goes schedules_limited bounded first all old now state left → Advances left (Ok false) number line t → told ≡ told_if s.strict (found_in_all state) → IsEnd r (end_fault told)
-      → IfSome all (λ script. Runs r old now (bounded first script))
-  ends_by number line first state old now r told None left t g a is h = tt
-  ends_by number line first state old now r told (Some all) None t g a is h = absurd g
-  ends_by number line first state old now r told (Some all) (Some script) t g a is h = by r (end_fault told) (ap end_fault (sym is)) h
-    where
-      same : bounded state script ≡ bounded state End
-      same = ap (bounded state) a
+  module _ (number : ℕ) (line : List ℕ) (all : Option Script) (old now : Option (List ℕ)) (so_far : Answered) where
+    -- the lines stop, where this was found before and is told
+    pub stops_behind : {f : Result (Unit {0}) (Fault BoundsInput)} (found : Option Finding) (fault : LineFault) (left t : Option Script) → IsWritten all old now so_far left
+        → Advances left (Err fault) number line t → found ≡ told_if s.strict so_far.finding → f ≡ Err (schedules_fault found fault)
+        → IfSome all (λ script. RunsLines f read s streams script old now)
+    stops_behind {f} found fault left t w a is h =
+        let P : Result (Unit {0}) (Fault BoundsInput) → Type 0 = λ x. IfSome all (λ script. RunsLines x read s streams script old now) in
+        subst P (sym h) (by fault all left (w.known ++ []) (λ short r. w.right short [] r) (w.goes []) a)
+      where
+        by : (fault : LineFault) (all left : Option Script) (known : Known) → ((short : Bool) → AreLater short [] left → AreLater short known all)
+            → Goes schedules_limited bounded (begun_with streams, known) all old now (so_far, []) left → Advances left (Err fault) number line t
+            → IfSome all (λ script. RunsLines (Err (schedules_fault found fault)) read s streams script old now)
+        by fault None left known right g a = tt
+        by fault (Some script) None known right g a = absurd g
+        by (LineFaults.Limit n limit) (Some script) (Some lines) known right g a =
+            let same : bounded (so_far, []) lines ≡ faulty (limited_behind found n limit) = ap (bounded (so_far, [])) a ∙ ap (λ (o : Option Finding). faulty (limited_behind o n limit)) (sym is) in
+            record {
+              answers = known;
+              right = right false (subst (λ (x : Script). AreAnswers false read s streams [] x) (sym a) refl);
+              is = (g.1 ∙ ap (λ x. x.fault) same, sent_all g.0 (ap (λ x. x.text) same));
+            }
+        by LineFaults.Read (Some script) (Some lines) known right g a = record {
+          answers = known;
+          right = right true (none_known lines);
+          is = ((bounded (so_far, []) lines).text, g.0);
+        }
 
-      by : (r : Result (Unit {0}) (Fault BoundsInput)) (o : Option BoundsInput) → end_fault (told_if s.strict (found_in_all state)) ≡ o → IsEnd r o → Runs r old now (bounded first all)
-      by (Ok x) o is h = (g.1 ∙ ap (λ x. x.fault) same ∙ is ∙ h, sent_all g.0 (ap (λ x. x.text) same))
-      by (Err why) None is h = absurd h
-      by (Err why) (Some fault) is h =
-          let P : Fault BoundsInput → Type 0 = λ w. Runs {T = Unit {0}} (Err w) old now (bounded first all) in
-          subst P (sym h) (g.1 ∙ ap (λ x. x.fault) same ∙ is, sent_all g.0 (ap (λ x. x.text) same))
+    -- the lines end
+    pub ends_by : (r : Result (Unit {0}) (Fault BoundsInput)) (told : Option Finding) (left t : Option Script) → IsWritten all old now so_far left
+        → Advances left (Ok false) number line t → told ≡ told_if s.strict (found_in_all so_far) → IsEnd r (end_fault told)
+        → IfSome all (λ script. RunsLines r read s streams script old now)
+    ends_by r told left t w a is h = by all left (w.known ++ []) (λ r. w.right false [] r) (w.goes []) a
+      where
+        -- no fault of a call
+        whole : (r : Result (Unit {0}) (Fault BoundsInput)) (o : Option BoundsInput) → IsEnd r o → may_stop r ≡ false
+        whole (Ok x) o h = refl
+        whole (Err why) None h = absurd h
+        whole (Err why) (Some fault) h = ap (λ w. may_stop {T = Unit {0}} (Err w)) h
+
+        runs : (r : Result (Unit {0}) (Fault BoundsInput)) (o : Option BoundsInput) (known : Known) (script : Script)
+            → Goes schedules_limited bounded (begun_with streams, known) (Some script) old now (so_far, []) (Some End)
+            → end_fault (told_if s.strict (found_in_all so_far)) ≡ o → IsEnd r o → Runs r old now (bounded (begun_with streams, known) script)
+        runs (Ok x) o known script g e h = (g.1 ∙ e ∙ h, sent_all g.0 refl)
+        runs (Err why) None known script g e h = absurd h
+        runs (Err why) (Some fault) known script g e h =
+            let P : Fault BoundsInput → Type 0 = λ w. Runs {T = Unit {0}} (Err w) old now (bounded (begun_with streams, known) script) in
+            subst P (sym h) (g.1 ∙ e, sent_all g.0 refl)
+
+        by : (all left : Option Script) (known : Known) → (AreLater false [] left → AreLater false known all)
+            → Goes schedules_limited bounded (begun_with streams, known) all old now (so_far, []) left → Advances left (Ok false) number line t
+            → IfSome all (λ script. RunsLines r read s streams script old now)
+        by None left known right g a = tt
+        by (Some script) None known right g a = absurd g
+        by (Some script) (Some lines) known right g a = record {
+          answers = known;
+          right =
+              let all : AreAnswers false read s streams known script = right (subst (λ (x : Script). AreAnswers false read s streams [] x) (sym a) refl) in
+              subst (λ (short : Bool). AreAnswers short read s streams known script) (sym (whole r (end_fault told) h)) all;
+          is =
+              let at_end = subst (λ (x : Script). Goes schedules_limited bounded (begun_with streams, known) (Some script) old now (so_far, []) (Some x)) a g in
+              runs r (end_fault told) known script at_end (ap end_fault (sym is)) h;
+        }
 
 -- ---- both inputs
 
 module _ (read : List (List ℕ) → Result Command TcFault) (s : BoundsSettings) where
   -- the table is read
-  bounding_is : (table : Table) (streams : List Stream) (script : Script) → (table.fault ≡ None) × (streams ≡ [] ++ table.streams) → outcome_in read s table script ≡ bounds_in read s streams (begun_with streams) script
-  bounding_is table streams script h = ap (λ fault. outcome_unless fault table.streams read s script) h.0 ∙ ap (λ (xs : List Stream). bounds_in read s xs (begun_with xs) script) (sym h.1)
-
   pub bounded_with : (r : Result (Unit {0}) (Fault BoundsInput)) (table script : Option Script) (streams : List Stream) (old new : Option (List ℕ))
-      → IfSome table (λ lines. ReadsTable {T = Unit {0}} (Ok tt) (table_by periodic lines) [] streams) → IfSome script (λ lines. Runs r old new (bounds_in read s streams (begun_with streams) lines))
-      → IfSome table (λ lines. IfSome script (λ others. Runs r old new (outcome_in read s (table_by periodic lines) others)))
+      → IfSome table (λ lines. ReadsTable {T = Unit {0}} (Ok tt) (table_by periodic lines) [] streams) → IfSome script (λ lines. RunsLines r read s streams lines old new)
+      → IfSome table (λ lines. IfSome script (λ others. IsBounded (may_stop r) read s (table_by periodic lines) others (Runs r old new)))
   bounded_with r None script streams old new h w = tt
   bounded_with r (Some lines) None streams old new h w = tt
   bounded_with r (Some lines) (Some others) streams old new h w =
-      let P : Outcome BoundsInput → Type 0 = λ whole. Runs r old new whole in
-      subst P (sym (bounding_is (table_by periodic lines) streams others h)) w
+      let table = table_by periodic lines in
+      let same : streams ≡ table.streams = h.1 in
+      let w : RunsLines r read s table.streams others old new = subst (λ (xs : List Stream). RunsLines r read s xs others old new) same w in
+      record {
+        answers = w.answers;
+        right =
+            let P : Option (ℕ × ScriptFault) → Type 0 = λ f. AreTableAnswers f (may_stop r) read s table.streams w.answers others in
+            subst P (sym h.0) w.right;
+        is =
+            let P : Option (ℕ × ScriptFault) → Type 0 = λ f. Runs r old new (outcome_unless f table.streams read s w.answers others) in
+            subst P (sym h.0) w.is;
+      }
+
+  -- nothing is written, and nothing is known of any line
+  unanswered : (fault : Option (ℕ × ScriptFault)) (streams : List Stream) (script : Script) → AreTableAnswers fault true read s streams [] script
+  unanswered None streams script = none_known read s streams script
+  unanswered (Some fault) streams script = refl
+
+  untold : (table : Table) (script : Script) → AreTableAnswers table.fault true read s table.streams [] script
+  untold table script = unanswered table.fault table.streams script
 
   -- the table has a fault, or can't be read: nothing is written
   unwritten : (fault : Fault BoundsInput) (table : Table) (before streams : List Stream) (script : Script) (old : Option (List ℕ)) → ReadsTable {T = Unit {0}} (Err fault) table before streams
-      → Runs {T = Unit {0}} (Err fault) old old (outcome_in read s table script)
-  unwritten (Faults.Input (Inputs.Table number fault)) table before streams script old h =
-      let P : Outcome BoundsInput → Type 0 = λ whole. Runs {T = Unit {0}} (Err (Faults.Input (Inputs.Table number fault))) old old whole in
-      subst P (sym (ap (λ f. outcome_unless f table.streams read s script) h)) (refl, Appends-nil old)
+      → IsBounded (may_stop {T = Unit {0}} (Err fault)) read s table script (Runs {T = Unit {0}} (Err fault) old old)
+  unwritten (Faults.Input (Inputs.Table number fault)) table before streams script old h = record {
+    answers = [];
+    right =
+        let P : Option (ℕ × ScriptFault) → Type 0 = λ f. AreTableAnswers f false read s table.streams [] script in
+        subst P (sym h) refl;
+    is =
+        let P : Option (ℕ × ScriptFault) → Type 0 = λ f. Runs {T = Unit {0}} (Err (Faults.Input (Inputs.Table number fault))) old old (outcome_unless f table.streams read s [] script) in
+        subst P (sym h) (refl, Appends-nil old);
+  }
   unwritten (Faults.Input (Inputs.Schedules found number fault)) table before streams script old h = absurd h
   unwritten (Faults.Input (Inputs.Found finding)) table before streams script old h = absurd h
-  unwritten Faults.Read table before streams script old h = ((outcome_in read s table script).text, sent_none old (outcome_in read s table script).text)
+  unwritten Faults.Read table before streams script old h = record {
+    answers = [];
+    right = untold table script;
+    is = ((outcome_in read s table [] script).text, sent_none old (outcome_in read s table [] script).text);
+  }
   unwritten Faults.Write table before streams script old h = absurd h
-  unwritten Faults.Memory table before streams script old h = ((outcome_in read s table script).text, sent_none old (outcome_in read s table script).text)
+  unwritten Faults.Memory table before streams script old h = record {
+    answers = [];
+    right = untold table script;
+    is = ((outcome_in read s table [] script).text, sent_none old (outcome_in read s table [] script).text);
+  }
 
   pub unread : (fault : Fault BoundsInput) (table script : Option Script) (before streams : List Stream) (old : Option (List ℕ))
       → IfSome table (λ lines. ReadsTable {T = Unit {0}} (Err fault) (table_by periodic lines) before streams)
-      → IfSome table (λ lines. IfSome script (λ others. Runs {T = Unit {0}} (Err fault) old old (outcome_in read s (table_by periodic lines) others)))
+      → IfSome table (λ lines. IfSome script (λ others. IsBounded (may_stop {T = Unit {0}} (Err fault)) read s (table_by periodic lines) others (Runs {T = Unit {0}} (Err fault) old old)))
   unread fault None script before streams old h = tt
   unread fault (Some lines) None before streams old h = tt
   unread fault (Some lines) (Some others) before streams old h = unwritten fault (table_by periodic lines) before streams others old h
 
   -- out of memory before anything is read
-  pub refused : {r : Result (Unit {0}) (Fault BoundsInput)} (table script old : Option (List ℕ)) → r ≡ Err Faults.Memory → IfSome table (λ octets. IfSome script (λ others. Runs r old old (outcome_of read s octets others)))
+  pub refused : {r : Result (Unit {0}) (Fault BoundsInput)} (table script old : Option (List ℕ)) → r ≡ Err Faults.Memory
+      → IfSome table (λ octets. IfSome script (λ others. IsOutcome (may_stop r) read s octets others (Runs r old old)))
   refused None script old e = tt
   refused (Some octets) None old e = tt
   refused {r} (Some octets) (Some others) old e =
-      let P : Result (Unit {0}) (Fault BoundsInput) → Type 0 = λ x. Runs x old old (outcome_of read s octets others) in
-      subst P (sym e) ((outcome_of read s octets others).text, sent_none old (outcome_of read s octets others).text)
+      let P : Result (Unit {0}) (Fault BoundsInput) → Type 0 = λ x. IsOutcome (may_stop x) read s octets others (Runs x old old) in
+      let table = table_by periodic (script_of octets) in
+      let text = (outcome_in read s table [] (script_of others)).text in
+      subst P (sym e) (record { answers = []; right = untold table (script_of others); is = (text, sent_none old text) })
 
-  -- by the lines of both inputs
-  of_script : (r : Result (Unit {0}) (Fault BoundsInput)) (old new : Option (List ℕ)) (table : Table) (script : Option (List ℕ)) (others : Option Script) → others ≡ option_map script_of script
-      → IfSome others (λ lines. Runs r old new (outcome_in read s table lines)) → IfSome script (λ octets. Runs r old new (outcome_in read s table (script_of octets)))
-  of_script r old new table None others e h = tt
-  of_script r old new table (Some octets) others e h =
-      let Q : Option Script → Type 0 = λ o. IfSome o (λ lines. Runs r old new (outcome_in read s table lines)) in
-      subst Q e h
+  -- by the octets of both inputs
+  module _ (short : Bool) (Is : Outcome BoundsInput → Type 0) where
+    of_script : (table : Table) (script : Option (List ℕ)) (others : Option Script) → others ≡ option_map script_of script
+        → IfSome others (λ lines. IsBounded short read s table lines Is) → IfSome script (λ octets. IsBounded short read s table (script_of octets) Is)
+    of_script table None others e h = tt
+    of_script table (Some octets) others e h = subst (λ (o : Option Script). IfSome o (λ lines. IsBounded short read s table lines Is)) e h
 
-  pub of_inputs : (r : Result (Unit {0}) (Fault BoundsInput)) (old new table script : Option (List ℕ)) (lines others : Option Script) → lines ≡ option_map script_of table → others ≡ option_map script_of script
-      → IfSome lines (λ streams. IfSome others (λ all. Runs r old new (outcome_in read s (table_by periodic streams) all))) → IfSome table (λ octets. IfSome script (λ more. Runs r old new (outcome_of read s octets more)))
-  of_inputs r old new None script lines others e d h = tt
-  of_inputs r old new (Some octets) script lines others e d h =
-      let Q : Option Script → Type 0 = λ o. IfSome o (λ streams. IfSome others (λ all. Runs r old new (outcome_in read s (table_by periodic streams) all))) in
-      of_script r old new (table_by periodic (script_of octets)) script others d (subst Q e h)
+    pub of_inputs : (table script : Option (List ℕ)) (lines others : Option Script) → lines ≡ option_map script_of table → others ≡ option_map script_of script
+        → IfSome lines (λ streams. IfSome others (λ all. IsBounded short read s (table_by periodic streams) all Is))
+        → IfSome table (λ octets. IfSome script (λ more. IsOutcome short read s octets more Is))
+    of_inputs None script lines others e d h = tt
+    of_inputs (Some octets) script lines others e d h =
+        let Q : Option Script → Type 0 = λ o. IfSome o (λ streams. IfSome others (λ all. IsBounded short read s (table_by periodic streams) all Is)) in
+        of_script (table_by periodic (script_of octets)) script others d (subst Q e h)
+
+  -- 3. What was written is let out
+
+  -- answers of all lines are those of the first ones, too
+  also_of_table : (fault : Option (ℕ × ScriptFault)) (short : Bool) (streams : List Stream) (answers : Known) (script : Script)
+      → AreTableAnswers fault short read s streams answers script → AreTableAnswers fault true read s streams answers script
+  also_of_table None short streams answers script r = also_short read s streams short script answers r
+  also_of_table (Some fault) short streams answers script r = r
+
+  still_right : (table : Table) (script : Script) (answers : Known) (run before : Result (Unit {0}) (Fault BoundsInput)) → IsOrFails run before
+      → AreTableAnswers table.fault (may_stop before) read s table.streams answers script
+      → AreTableAnswers table.fault (may_stop run) read s table.streams answers script
+  still_right table script answers run before (inl same) r =
+      subst (λ (x : Result (Unit {0}) (Fault BoundsInput)). AreTableAnswers table.fault (may_stop x) read s table.streams answers script) (sym same) r
+  still_right table script answers run before (inr failed) r =
+      subst (λ (x : Result (Unit {0}) (Fault BoundsInput)). AreTableAnswers table.fault (may_stop x) read s table.streams answers script) (sym failed)
+      (also_of_table table.fault (may_stop before) table.streams answers script r)
+
+  pub let_out : (first second : Option (List ℕ)) (old mid out : Option (List ℕ)) (before run : Result (Unit {0}) (Fault BoundsInput)) → Keeps mid out → IsOrFails run before
+      → IfSome first (λ table. IfSome second (λ schedules. IsOutcome (may_stop before) read s table schedules (Runs before old mid)))
+      → IfSome first (λ table. IfSome second (λ schedules. IsOutcome (may_stop run) read s table schedules (RunsOut run old out)))
+  let_out None second old mid out before run kept same w = tt
+  let_out (Some table) None old mid out before run kept same w = tt
+  let_out (Some table) (Some schedules) old mid out before run kept same w = record {
+    answers = w.answers;
+    right = still_right (table_by periodic (script_of table)) (script_of schedules) w.answers run before same w.right;
+    is = out_of_inputs (Some table) (Some schedules) (λ _ _. outcome_in read s (table_by periodic (script_of table)) w.answers (script_of schedules)) old mid out before run kept same w.is;
+  }

@@ -3,3 +3,4 @@ mod LineLaws
 mod PickLaws
 mod RefusalLaws
 mod TableLaws
+mod AnswerLaws

@@ -1,8 +1,7 @@
 -- The lines of a schedule's bounds. Times are in picoseconds.
-use Rattle.std.specs.Prelude.{ℕ, ◌+◌, zero, suc, ◌||◌, true, false, List, [], ◌∷◌, ◌++◌, Option, Some, None, Result, Ok, Err, decimal, codes}
+use Rattle.std.specs.Prelude.{ℕ, ◌≡◌, ◌+◌, zero, suc, ◌||◌, true, false, List, [], ◌∷◌, ◌++◌, Option, Some, None, Result, Ok, Err, decimal, codes}
 use Rattle.std.specs.List.{concat}
 use Rattle.answer_text.specs.Names.{dropped_name}
-use Rattle.wire_time.specs.Wire.{occupancy_of}
 use Rattle.abstract_port.specs.AbstractPort.{plan_asked}
 use Rattle.abstract_port.specs.declared.Change.{Change}
 use Rattle.abstract_port.specs.declared.Command.{Command}
@@ -11,8 +10,9 @@ use Rattle.abstract_port.specs.declared.Refused.{Refused}
 use Rattle.answer_text.specs.Lines.{refused_line, tc_fault_line}
 use Rattle.schedule_check.specs.Apart.{apart_line, class_count, classes_apart}
 use Rattle.schedule_check.specs.Refusals.{map_after}
+use Rattle.delay_bounds.specs.declared.Bound.{Bound}
 use Rattle.stream_bounds.specs.Classes.{class_of, refusal_of}
-use Rattle.stream_bounds.specs.Verdicts.{ClassAnswer, answer_at, class_answers, delay_of, left_after, met_by, plus}
+use Rattle.stream_bounds.specs.Verdicts.{AreClassAnswers, ClassAnswer, answer_at, delay_of, left_after, met_by, needs_of, plus}
 use Rattle.stream_bounds.specs.declared.faults.Answered.{Answered}
 use Rattle.stream_bounds.specs.declared.faults.Finding.{Finding}
 use Rattle.stream_bounds.specs.declared.faults.Finding.TheVariants as Findings
@@ -21,6 +21,7 @@ use Rattle.stream_bounds.specs.declared.verdicts.Delay.{Delay}
 use Rattle.stream_bounds.specs.declared.verdicts.Delay.TheVariants as Delays
 use Rattle.stream_bounds.specs.declared.verdicts.Met.{Met}
 use Rattle.stream_bounds.specs.declared.verdicts.Met.TheVariants as Mets
+use Rattle.stream_bounds.specs.declared.verdicts.Needs.{Needs}
 use Rattle.stream_bounds.specs.declared.verdicts.Place.{Place}
 use Rattle.stream_bounds.specs.declared.verdicts.Verdict.{Verdict}
 use Rattle.stream_bounds.specs.declared.verdicts.Verdict.TheVariants as Verdicts
@@ -69,13 +70,24 @@ bounded_line class room most frames every = concat (
     ∷ codes " every " ∷ decimal every
     ∷ codes "\n" ∷ [])
 
+-- the line of a class whose frames wait within bounds, whenever they come, with room for so many
+abbrev pub within_line : ℕ → ℕ → ℕ → List ℕ
+within_line class room most = concat (
+    codes "class " ∷ decimal class
+    ∷ codes " within most " ∷ decimal most
+    ∷ codes " of " ∷ decimal room
+    ∷ codes "\n" ∷ [])
+
 -- the line of a class; one without streams has none
 abbrev pub class_line : ℕ → ℕ → Verdict → List ℕ
 class_line class room Verdicts.Idle = []
 class_line class room Verdicts.Shared = word_line class (codes " shared")
 class_line class room (Verdicts.Bounded most frames every) = bounded_line class room most frames every
+class_line class room (Verdicts.Within most reached) = within_line class room most
+class_line class room (Verdicts.Crowded most) = within_line class room most
 class_line class room (Verdicts.Full f alone) = full_line class f
 class_line class room (Verdicts.Stuck never full) = stuck_line class never full
+class_line class room Verdicts.Unfit = word_line class (codes " stuck")
 class_line class room (Verdicts.Overloaded alone) = word_line class (codes " overloaded")
 class_line class room Verdicts.Long = word_line class (codes " long")
 class_line class room Verdicts.Late = word_line class (codes " late")
@@ -94,53 +106,57 @@ met_word Mets.Missed = codes " missed\n"
 met_word Mets.Unknown = codes " unknown\n"
 
 -- the end of a stream's line: its deadline, and whether that is met
-abbrev pub deadline_end : ℕ → Delay → Option ℕ → List ℕ
-deadline_end need delay None = codes "\n"
-deadline_end need delay (Some deadline) = concat (codes " deadline " ∷ decimal deadline ∷ met_word (met_by need delay deadline) ∷ [])
+abbrev pub deadline_end : Needs → Delay → Option ℕ → List ℕ
+deadline_end needs delay None = codes "\n"
+deadline_end needs delay (Some deadline) = concat (codes " deadline " ∷ decimal deadline ∷ met_word (met_by needs delay deadline) ∷ [])
+
+-- how long frames of a class take, to their starts and to their ends, behind a word that says how that is meant
+abbrev pub range_text : ℕ → List ℕ → Bound → Needs → List ℕ
+range_text class word b needs = concat (
+    codes " class " ∷ decimal class
+    ∷ word ∷ decimal b.least ∷ codes " to " ∷ decimal b.greatest
+    ∷ codes " end " ∷ decimal (plus b.least needs.shortest) ∷ codes " to " ∷ decimal (plus b.greatest needs.longest)
+    ∷ [])
 
 -- what is told of a stream whose frames occupy the wire for so long, before its deadline
-abbrev pub delay_text : ℕ → Delay → List ℕ
-delay_text need (Delays.Within class b) = concat (
-    codes " class " ∷ decimal class
-    ∷ codes " wait " ∷ decimal b.least ∷ codes " to " ∷ decimal b.greatest
-    ∷ codes " end " ∷ decimal (plus b.least need) ∷ codes " to " ∷ decimal (plus b.greatest need)
-    ∷ [])
-delay_text need (Delays.Unbounded class) = concat (codes " class " ∷ decimal class ∷ codes " none" ∷ [])
-delay_text need (Delays.Unsettled class) = concat (codes " class " ∷ decimal class ∷ codes " none" ∷ [])
-delay_text need (Delays.Unknown class) = concat (codes " class " ∷ decimal class ∷ codes " unknown" ∷ [])
-delay_text need (Delays.Lost why) = concat (codes " dropped " ∷ dropped_name why ∷ [])
+abbrev pub delay_text : Needs → Delay → List ℕ
+delay_text needs (Delays.Exact class b) = range_text class (codes " wait ") b needs
+delay_text needs (Delays.Within class b reached) = range_text class (codes " within ") b needs
+delay_text needs (Delays.Unbounded class) = concat (codes " class " ∷ decimal class ∷ codes " none" ∷ [])
+delay_text needs (Delays.Unsettled class) = concat (codes " class " ∷ decimal class ∷ codes " none" ∷ [])
+delay_text needs (Delays.Unknown class) = concat (codes " class " ∷ decimal class ∷ codes " unknown" ∷ [])
+delay_text needs (Delays.Lost why) = concat (codes " dropped " ∷ dropped_name why ∷ [])
 
 -- the beginning of a stream's line
 abbrev pub bound_head : ℕ → List ℕ
 bound_head id = concat (codes "bound " ∷ decimal id ∷ [])
 
 -- the line of a stream
-abbrev pub bound_line : ℕ → Stream → Delay → List ℕ
-bound_line need x delay = bound_head x.first_id ++ (delay_text need delay ++ deadline_end need delay x.deadline)
+abbrev pub bound_line : Needs → Stream → Delay → List ℕ
+bound_line needs x delay = bound_head x.first_id ++ (delay_text needs delay ++ deadline_end needs delay x.deadline)
 
 -- the lines of streams, by the answers that are still to be told
 unfoldable pub bound_lines : BoundsSettings → Change → List ClassAnswer → List Stream → List ℕ
 bound_lines s c answers [] = []
 bound_lines s c answers (x ∷ xs) =
-    bound_line (occupancy_of s.port.rate x.len) x (delay_of answers (class_of s c x))
+    bound_line (needs_of s.port.rate x) x (delay_of answers (class_of s c x))
     ++ bound_lines s c (left_after answers (class_of s c x)) xs
 
 -- 3. Commands
 
 -- The lines of a change: why the port refuses it; or the classes that its schedule keeps apart, of those of the map that the port then has, the verdict about
--- each class, and the delay of each stream.
-abbrev pub change_lines : Option Refused → BoundsSettings → Change → List Stream → List ℕ
-change_lines (Some why) s c streams = refused_line why
-change_lines None s c streams =
+-- each class, and the delay of each stream, by the answers about all classes.
+abbrev pub change_lines : Option Refused → BoundsSettings → Change → List Stream → List ClassAnswer → List ℕ
+change_lines (Some why) s c streams answers = refused_line why
+change_lines None s c streams answers =
     apart_line (classes_apart (class_count (map_after s.map c.map)) 0 (plan_asked c).entries)
-    ++ (class_lines s.port.room (class_answers s c streams) 8 0
-    ++ bound_lines s c (class_answers s c streams) streams)
+    ++ (class_lines s.port.room answers 8 0 ++ bound_lines s c answers streams)
 
 -- the lines of a line that begins with tc: it is no command, or what is answered about the command; a deletion keeps nothing apart
-abbrev pub command_lines : BoundsSettings → List Stream → Result Command TcFault → List ℕ
-command_lines s streams (Err fault) = tc_fault_line fault
-command_lines s streams (Ok Delete) = apart_line []
-command_lines s streams (Ok (Replace c)) = change_lines (refusal_of s c) s c streams
+abbrev pub command_lines : BoundsSettings → List Stream → Result Command TcFault → List ClassAnswer → List ℕ
+command_lines s streams (Err fault) answers = tc_fault_line fault
+command_lines s streams (Ok Delete) answers = apart_line []
+command_lines s streams (Ok (Replace c)) answers = change_lines (refusal_of s c) s c streams answers
 
 -- 4. What a strict run stops a build for
 
@@ -161,21 +177,22 @@ lost id (Delays.Lost why) = Some (Findings.Dropped id)
 lost id delay = None
 
 -- the finding about a stream: its deadline is not known to be met, or it has none and is dropped
-abbrev pub stream_finding : ℕ → Stream → Delay → Option ℕ → Option Finding
-stream_finding need x delay None = lost x.first_id delay
-stream_finding need x delay (Some deadline) = unmet x.first_id (met_by need delay deadline)
+abbrev pub stream_finding : Needs → Stream → Delay → Option ℕ → Option Finding
+stream_finding needs x delay None = lost x.first_id delay
+stream_finding needs x delay (Some deadline) = unmet x.first_id (met_by needs delay deadline)
 
 -- the first finding among streams
 unfoldable pub finding_in : BoundsSettings → Change → List ClassAnswer → List Stream → Option Finding
 finding_in s c answers [] = None
 finding_in s c answers (x ∷ xs) =
-    first_of (stream_finding (occupancy_of s.port.rate x.len) x (delay_of answers (class_of s c x)) x.deadline)
+    first_of (stream_finding (needs_of s.port.rate x) x (delay_of answers (class_of s c x)) x.deadline)
     (finding_in s c (left_after answers (class_of s c x)) xs)
 
 -- a class that loses frames, or never sends some
 abbrev pub class_finding : ℕ → Verdict → Option Finding
 class_finding class (Verdicts.Full f alone) = Some (Findings.Full class)
 class_finding class (Verdicts.Stuck never full) = Some (Findings.Stuck class)
+class_finding class Verdicts.Unfit = Some (Findings.Stuck class)
 class_finding class (Verdicts.Overloaded alone) = Some (Findings.Overloaded class)
 class_finding class _ = None
 
@@ -185,8 +202,8 @@ class_finding_in answers zero class = None
 class_finding_in answers (suc n) class = first_of (class_finding class (answer_at answers class).verdict) (class_finding_in answers n (class + 1))
 
 -- the first finding about a change that is accepted: among its streams, and else among the classes
-abbrev pub accepted_finding : BoundsSettings → Change → List Stream → Option Finding
-accepted_finding s c streams = first_of (finding_in s c (class_answers s c streams) streams) (class_finding_in (class_answers s c streams) 8 0)
+abbrev pub accepted_finding : BoundsSettings → Change → List Stream → List ClassAnswer → Option Finding
+accepted_finding s c streams answers = first_of (finding_in s c answers streams) (class_finding_in answers 8 0)
 
 -- 5. What was answered
 
@@ -199,12 +216,23 @@ abbrev pub joined : Answered → Answered → Answered
 joined a b = record { finding = first_of a.finding b.finding; judged = a.judged || b.judged }
 
 -- what was answered about a change: its refusal, or its schedule
-abbrev pub change_answered : ℕ → Option Refused → BoundsSettings → Change → List Stream → Answered
-change_answered line (Some why) s c streams = record { finding = Some (Findings.Refused line); judged = false }
-change_answered line None s c streams = record { finding = accepted_finding s c streams; judged = true }
+abbrev pub change_answered : ℕ → Option Refused → BoundsSettings → Change → List Stream → List ClassAnswer → Answered
+change_answered line (Some why) s c streams answers = record { finding = Some (Findings.Refused line); judged = false }
+change_answered line None s c streams answers = record { finding = accepted_finding s c streams answers; judged = true }
 
 -- what was answered about the line of this number
-abbrev pub command_answered : ℕ → BoundsSettings → List Stream → Result Command TcFault → Answered
-command_answered line s streams (Err fault) = record { finding = Some (Findings.TcFault line); judged = false }
-command_answered line s streams (Ok Delete) = nothing_answered
-command_answered line s streams (Ok (Replace c)) = change_answered line (refusal_of s c) s c streams
+abbrev pub command_answered : ℕ → BoundsSettings → List Stream → Result Command TcFault → List ClassAnswer → Answered
+command_answered line s streams (Err fault) answers = record { finding = Some (Findings.TcFault line); judged = false }
+command_answered line s streams (Ok Delete) answers = nothing_answered
+command_answered line s streams (Ok (Replace c)) answers = change_answered line (refusal_of s c) s c streams answers
+
+-- the answers about all classes that a change asks for: those of its schedule, where it is not refused
+abbrev pub AreChangeAnswers : Option Refused → BoundsSettings → Change → List Stream → List ClassAnswer → Type 0
+AreChangeAnswers (Some why) s c streams answers = answers ≡ []
+AreChangeAnswers None s c streams answers = AreClassAnswers s c streams answers
+
+-- and those that a line asks for
+abbrev pub AreCommandAnswers : BoundsSettings → List Stream → Result Command TcFault → List ClassAnswer → Type 0
+AreCommandAnswers s streams (Err fault) answers = answers ≡ []
+AreCommandAnswers s streams (Ok Delete) answers = answers ≡ []
+AreCommandAnswers s streams (Ok (Replace c)) answers = AreChangeAnswers (refusal_of s c) s c streams answers

@@ -16,7 +16,8 @@ use Rattle.script.specs.Texts.{value_text}
 use Rattle.script.specs.declared.settings.BadValue.{BadValue}
 use Rattle.script.specs.declared.settings.BadValue.TheVariants as BadValues
 use Rattle.stream_bounds.specs.Faults.{bounds_telling}
-use Rattle.stream_bounds.specs.Outcome.{outcome_of}
+use Rattle.stream_bounds.specs.Outcome.{IsOutcome}
+use Rattle.stream_bounds.specs.TableRead.{may_stop}
 use Rattle.stream_bounds.specs.declared.settings.BoundsSettings.{BoundsSettings}
 use Rattle.stream_bounds.specs.declared.settings.BoundsValue.{BoundsValue}
 use Rattle.stream_bounds.specs.declared.settings.BoundsValue.TheVariants as Values
@@ -68,4 +69,4 @@ IsBoundsRefusal value ended old got errors_old errors_new = IsUnanswered 2 (boun
 abbrev pub IsBoundsEnding : BoundsSettings → (table schedules : Option (List ℕ)) → Ended → (old got errors_old errors_new : Option (List ℕ)) → Type 0
 IsBoundsEnding s table schedules ended old got errors_old errors_new =
     IsRunEnding bounds_telling (λ run. IsLetOut run got (λ out. (read : List (List ℕ) → Result Command TcFault) → IsReader read
-    → IfSome table (λ streams. IfSome schedules (λ lines. RunsOut run old out (outcome_of read s streams lines))))) ended errors_old errors_new
+    → IfSome table (λ streams. IfSome schedules (λ lines. IsOutcome (may_stop run) read s streams lines (RunsOut run old out))))) ended errors_old errors_new

@@ -1,10 +1,14 @@
 -- What is answered about a class and its streams.
 --
--- The claim: the answer about a class is `answer_of` (delay_bounds/specs/Walked.antt) for the flows of its streams in the schedule. What it is
+-- The claim for exact traffic: the answer about a class is `answer_of` (delay_bounds/specs/Walked.antt) for the flows of its streams in the schedule. What it is
 -- worth in every run of a port is delay_bounds/specs/Claim.antt, the law `delay_bounds::laws::answers`: bounds hold for ever, and each is reached;
 -- of a class that is full that very frame is the first to be dropped, and of one that is stuck it is too, behind a frame that never starts; and a class
 -- that is overloaded loses a frame at any room.
-use Rattle.std.specs.Prelude.{ℕ, ◌+◌, ◌-◌, ◌^◌, ◌==◌, length, min, nat_le, Bool, true, false, List, [], ◌∷◌, drop, slice_get, slice_set, slice_index_or, Option, Some, None, unwrap_or, Result, Ok, Err, if◌then◌else◌}
+--
+-- For any other traffic (a frame with jitter, or of a talker that isn't synchronised, or of several lengths) it is what `IsBurstAnswer` says: the least
+-- wait and the least number of frames that bound every run whose frames conform to the arrival curve of the streams. What such bounds are
+-- worth in every run of a port is the law `any_traffic::any_traffic`; that these frames do conform, `any_traffic::sporadic`.
+use Rattle.std.specs.Prelude.{ℕ, ◌+◌, ◌-◌, ◌^◌, ◌==◌, ◌≡◌, ◌<◌, length, map, min, nat_le, is_some, Bool, true, false, List, [], ◌∷◌, drop, slice_get, slice_set, slice_index_or, Option, Some, None, unwrap_or, Result, Ok, Err, if◌then◌else◌}
 use Rattle.gate_list.specs.Gate.{keeps_apart}
 use Rattle.abstract_port.specs.AbstractPort.{plan_asked}
 use Rattle.abstract_port.specs.declared.Change.{Change}
@@ -12,12 +16,21 @@ use Rattle.abstract_port.specs.declared.Dropped.{Dropped}
 use Rattle.delay_bounds.specs.Bounded.{Answer}
 use Rattle.delay_bounds.specs.Walked.{answer_of}
 use Rattle.delay_bounds.specs.declared.Bound.{Bound}
-use Rattle.delay_bounds.specs.declared.Flow.{Flow}
 use Rattle.delay_bounds.specs.declared.Refused.{Refused}
 use Rattle.delay_bounds.specs.declared.Unbound.{Unbound}
 use Rattle.delay_bounds.specs.declared.Unbound.TheVariants as Unbounds
-use Rattle.stream_bounds.specs.Classes.{flows_of, ids_of}
+use Rattle.burst_bounds.specs.Answer.{IsUnbound}
+use Rattle.burst_bounds.specs.Least.{AreLeast}
+use Rattle.burst_bounds.specs.Talkers.{curve, longest_need}
+use Rattle.burst_bounds.specs.declared.Bounds.{Bounds}
+use Rattle.burst_bounds.specs.declared.Talker.{Talker}
+use Rattle.burst_bounds.specs.declared.Unbound.{Unbound as BurstUnbound}
+use Rattle.burst_bounds.specs.declared.Unbound.TheVariants as Bursts
+use Rattle.gate_list.specs.Gate.{Plan}
+use Rattle.wire_time.specs.Wire.{occupancy_of}
+use Rattle.stream_bounds.specs.Classes.{are_alike, flow_of, has_inexact, streams_of, talker_of}
 use Rattle.stream_bounds.specs.declared.settings.BoundsSettings.{BoundsSettings}
+use Rattle.stream_bounds.specs.declared.verdicts.Needs.{Needs}
 use Rattle.stream_bounds.specs.declared.verdicts.Place.{Place}
 use Rattle.stream_bounds.specs.declared.verdicts.Verdict.{Verdict}
 use Rattle.stream_bounds.specs.declared.verdicts.Verdict.TheVariants as Verdicts
@@ -70,23 +83,14 @@ bounds_of (Err why) = []
 abbrev pub idle : ClassAnswer
 idle = record { verdict = Verdicts.Idle; left = [] }
 
--- the answer about a class by its flows, and whether it is kept apart
-abbrev pub class_answer_by : Bool → List Flow → List ℕ → Result Answer Unbound → ClassAnswer
-class_answer_by apart [] ids answer = idle
-class_answer_by false (f ∷ rest) ids answer = record { verdict = Verdicts.Shared; left = [] }
-class_answer_by true (f ∷ rest) ids answer = record { verdict = verdict_of ids answer; left = bounds_of answer }
+-- the answer about a class that is kept apart, with these streams
+abbrev pub apart_answer : List Stream → Result Answer Unbound → ClassAnswer
+apart_answer streams told = record { verdict = verdict_of (map (λ x. x.first_id) streams) told; left = bounds_of told }
 
--- the answer about a class
-abbrev pub class_answer : BoundsSettings → Change → List Stream → ℕ → ClassAnswer
-class_answer s c streams class =
-    class_answer_by (keeps_apart (plan_asked c).entries class) (flows_of s c class streams) (ids_of s c class streams)
-    (answer_of (plan_asked c) class s.port.room (flows_of s c class streams) s.frames)
-
--- the answers about all classes, from 0 up
-abbrev pub class_answers : BoundsSettings → Change → List Stream → List ClassAnswer
-class_answers s c streams =
-    let of = class_answer s c streams in
-    of 0 ∷ of 1 ∷ of 2 ∷ of 3 ∷ of 4 ∷ of 5 ∷ of 6 ∷ of 7 ∷ []
+-- by the walk over its flows, where its traffic is exact
+abbrev pub exact_answer : BoundsSettings → Plan → List Stream → ℕ → ClassAnswer
+exact_answer s plan streams class =
+    apart_answer streams (answer_of plan class s.port.room (map (flow_of s.port.rate) streams) s.frames)
 
 -- a class's answer among all
 abbrev pub answer_at : List ClassAnswer → ℕ → ClassAnswer
@@ -96,7 +100,72 @@ answer_at answers class = slice_index_or answers class idle
 abbrev pub one_told : List ClassAnswer → ℕ → List ClassAnswer
 one_told answers class = slice_set answers class (record { verdict = (answer_at answers class).verdict; left = drop 1 (answer_at answers class).left })
 
--- 2. A stream
+-- 2. A class with any other traffic
+
+-- By how much a frame of a stream may come later than the moment that its bounds count from: of a known offset that is its earliest, else its own.
+abbrev pub late_by : Stream → ℕ
+late_by x = if is_some x.offset then x.jitter else 0
+
+-- the bounds of a stream of a class whose frames wait for so long at most
+abbrev pub range_of : ℕ → Stream → Bound
+range_of wait x = record { least = 0; greatest = plus wait (late_by x) }
+
+-- bounds, where there is room for as many frames as may wait
+abbrev pub within_room : Bool → Bounds → List Stream → ClassAnswer
+within_room true b streams = record { verdict = Verdicts.Within b.most (are_alike streams); left = map (range_of b.wait) streams }
+within_room false b streams = record { verdict = Verdicts.Crowded b.most; left = [] }
+
+-- the answer about a class with these streams, with room for so many frames
+abbrev pub burst_answer : ℕ → List Stream → Result Bounds BurstUnbound → ClassAnswer
+burst_answer room streams (Ok b) = within_room (nat_le b.most room) b streams
+burst_answer room streams (Err Bursts.Overloaded) = record { verdict = Verdicts.Overloaded false; left = [] }
+burst_answer room streams (Err Bursts.Stuck) = record { verdict = Verdicts.Unfit; left = [] }
+burst_answer room streams (Err why) = record { verdict = Verdicts.Long; left = [] }
+
+-- Of so many frames of a busy time: these bounds are the least, or this is why there are none.
+abbrev pub IsBurst : Plan → ℕ → List Talker → ℕ → Result Bounds BurstUnbound → Type 0
+IsBurst plan class talkers limit (Ok b) = AreLeast plan class (longest_need talkers) (curve talkers) b.wait b.most
+IsBurst plan class talkers limit (Err Bursts.Memory) = ⊥
+IsBurst plan class talkers limit (Err why) = IsUnbound plan class talkers limit why
+
+-- at most so many frames of a busy time are looked at
+abbrev pub burst_limit : BoundsSettings → ℕ
+burst_limit s = min s.frames (2 ^ 32 - 1)
+
+-- The answer about a class with these streams: by the least bounds of their arrival curve.
+pub record IsBurstAnswer (s : BoundsSettings) (c : Change) (streams : List Stream) (class : ℕ) (answer : ClassAnswer) : Type 0 where
+  pub told : Result Bounds BurstUnbound
+  pub is : IsBurst (plan_asked c) class (map (talker_of s.port.rate) streams) (burst_limit s) told
+  pub answered : answer ≡ burst_answer s.port.room streams told
+
+-- 3. All classes
+
+-- the answer about a class with these streams, by whether it is kept apart, and whether its traffic is other than exact
+abbrev pub IsAnswerBy : (apart inexact : Bool) → BoundsSettings → Change → List Stream → ℕ → ClassAnswer → Type 0
+IsAnswerBy apart inexact s c [] class answer = answer ≡ idle
+IsAnswerBy false inexact s c (x ∷ streams) class answer = answer ≡ record { verdict = Verdicts.Shared; left = [] }
+IsAnswerBy true false s c (x ∷ streams) class answer = answer ≡ exact_answer s (plan_asked c) (x ∷ streams) class
+IsAnswerBy true true s c (x ∷ streams) class answer = IsBurstAnswer s c (x ∷ streams) class answer
+
+-- the answer about a class, by its streams in a table
+abbrev pub IsClassAnswer : BoundsSettings → Change → List Stream → ℕ → ClassAnswer → Type 0
+IsClassAnswer s c streams class answer =
+    IsAnswerBy (keeps_apart (plan_asked c).entries class) (has_inexact (streams_of s c class streams)) s c (streams_of s c class streams) class answer
+
+-- the answers about classes from one on
+abbrev pub AreAnswersFrom : BoundsSettings → Change → List Stream → ℕ → List ClassAnswer → Type 0
+AreAnswersFrom s c streams class [] = Unit {0}
+AreAnswersFrom s c streams class (answer ∷ answers) = IsClassAnswer s c streams class answer × AreAnswersFrom s c streams (class + 1) answers
+
+-- the answers about all eight classes
+abbrev pub AreClassAnswers : BoundsSettings → Change → List Stream → List ClassAnswer → Type 0
+AreClassAnswers s c streams answers = (length answers ≡ 8) × AreAnswersFrom s c streams 0 answers
+
+-- 4. A stream
+
+-- how long the shortest and the longest frame of a stream occupy the wire
+abbrev pub needs_of : ℕ → Stream → Needs
+needs_of ps x = record { shortest = occupancy_of ps x.shortest; longest = occupancy_of ps x.len }
 
 -- the delay of a stream of a class that loses frames: it loses some where the class has no other
 abbrev pub losing : ℕ → Bool → Delay
@@ -104,9 +173,11 @@ losing class alone = if alone then Delays.Unbounded class else Delays.Unsettled 
 
 -- the delay of the next stream of a class
 abbrev pub delay_by : ℕ → Verdict → Bound → Delay
-delay_by class (Verdicts.Bounded most frames every) b = Delays.Within class b
+delay_by class (Verdicts.Bounded most frames every) b = Delays.Exact class b
+delay_by class (Verdicts.Within most reached) b = Delays.Within class b reached
 delay_by class (Verdicts.Full f alone) b = losing class alone
 delay_by class (Verdicts.Stuck never full) b = Delays.Unbounded class
+delay_by class Verdicts.Unfit b = Delays.Unbounded class
 delay_by class (Verdicts.Overloaded alone) b = losing class alone
 delay_by class _ b = Delays.Unknown class
 
@@ -123,10 +194,15 @@ abbrev pub left_after : List ClassAnswer → Result ℕ Dropped → List ClassAn
 left_after answers (Ok class) = one_told answers class
 left_after answers (Err why) = answers
 
--- whether a deadline is met: where a frame has left by then at the latest
-abbrev pub met_by : ℕ → Delay → ℕ → Met
-met_by need (Delays.Within class b) deadline = if nat_le (plus b.greatest need) deadline then Mets.Met else Mets.Missed
-met_by need (Delays.Unbounded class) deadline = Mets.Missed
-met_by need (Delays.Unsettled class) deadline = Mets.Unknown
-met_by need (Delays.Unknown class) deadline = Mets.Unknown
-met_by need (Delays.Lost why) deadline = Mets.Missed
+-- Where a frame has left by a deadline at the latest, it is met; and else it is missed, if a frame does take so long.
+abbrev pub met_within : ℕ → ℕ → Bool → Met
+met_within «end» deadline reached = if nat_le «end» deadline then Mets.Met else if reached then Mets.Missed else Mets.Unknown
+
+-- whether a deadline is met
+abbrev pub met_by : Needs → Delay → ℕ → Met
+met_by needs (Delays.Exact class b) deadline = met_within (plus b.greatest needs.longest) deadline true
+met_by needs (Delays.Within class b reached) deadline = met_within (plus b.greatest needs.longest) deadline reached
+met_by needs (Delays.Unbounded class) deadline = Mets.Missed
+met_by needs (Delays.Unsettled class) deadline = Mets.Unknown
+met_by needs (Delays.Unknown class) deadline = Mets.Unknown
+met_by needs (Delays.Lost why) deadline = Mets.Missed

@@ -1,19 +1,23 @@
 //! The answers about all classes.
 
-ghost use Rattle.std.specs.Prelude.{◌≡◌, ◌<◌, All, IfErr, IfOk, Result, drop, slice_get, unwrap_or};
+ghost use Rattle.std.specs.Prelude.{◌≡◌, ◌≢◌, ◌<◌, All, Err, IfErr, IfOk, Result, drop, length, nat_le, slice_get, unwrap_or};
 ghost use Rattle.abstract_port.specs.AbstractPort.{plan_asked};
 ghost use Rattle.job.specs.declared.fault.Fault.TheVariants as Faults;
 ghost use Rattle.wire_time.specs.declared.TheConstants.{CLASSES};
+ghost use Rattle.burst_bounds.specs.declared.Unbound.TheVariants as Bursts;
 ghost use Rattle.delay_bounds.specs.Bounded.{Answer};
-ghost use Rattle.stream_bounds.specs.Classes.{IsPeriodic, ids_of};
+ghost use Rattle.stream_bounds.specs.Classes.{IsPeriodic};
 ghost use Rattle.stream_bounds.specs.TableRead.{IsAnswered};
-ghost use Rattle.stream_bounds.specs.Verdicts.{answer_at, bounds_of, class_answer, class_answers, delay_of, left_after, one_told, verdict_of};
+ghost use Rattle.stream_bounds.specs.Verdicts.{AreClassAnswers, IsBurstAnswer, IsClassAnswer, answer_at, apart_answer, burst_answer, delay_of, exact_answer, left_after, one_told, within_room};
 
-use crate::classes::{flows_of, ids_of};
+use crate::classes::{
+    are_alike, flows_of, has_inexact, ids_of, ranges_of, streams_of, talkers_of,
+};
 use crate::faults::BoundsFault;
 use crate::settings::BoundsSettings;
 use crate::verdicts::{Delay, Verdict, delay_by, verdict_of};
 use abstract_port::{Change, Dropped};
+use burst_bounds::{Bounds, Unbound as BurstUnbound, burst_bounds};
 use delay_bounds::{Bound, Bounded, Unbound, bound_flows};
 use gate_list::Schedule;
 use std::alloc::Global;
@@ -69,16 +73,14 @@ impl ClassAnswer {
     }
 }
 
-/// The answer about a class with these streams, of which some are of the class, in a schedule that keeps it apart.
+/// The answer about a class with these streams, whose traffic is exact, in a schedule that keeps it apart.
 fn apart_answer(
     alloc: Global,
-    settings: &BoundsSettings,
-    change: &Change,
     streams: &[Stream],
-    class: u8,
     answer: Result<Bounded<Global>, Unbound>,
 ) -> Result<ClassAnswer, BoundsFault>
-    ensures answer { (told : Result Answer Unbound) → IsAnswered answer told → IfOk result (λ a. a ≡ record { verdict = verdict_of (ids_of settings.now change.now class streams.now) told; left = bounds_of told }) }
+    ensures answer { (told : Result Answer Unbound) → IsAnswered answer told →
+        IfOk result (λ a. a ≡ apart_answer streams.now told) }
     ensures memory { IfErr result (λ fault. fault ≡ Faults.Memory) }
 {
     match answer {
@@ -92,11 +94,104 @@ fn apart_answer(
         }
         Err(Unbound::Memory) => Err(BoundsFault::Memory),
         Err(why) => {
-            let ids = ids_of(alloc, settings, change, streams, class)?;
+            let ids = ids_of(alloc, streams)?;
             let verdict = verdict_of(ids.as_slice(), why);
             Ok(ClassAnswer::new(verdict, Vec::new(alloc)))
         }
     }
+}
+
+/// The answer about a class with these streams, whose traffic is exact, in a schedule that keeps it apart.
+fn exact_answer(
+    alloc: Global,
+    settings: &BoundsSettings,
+    schedule: &Schedule,
+    streams: &[Stream],
+    class: u8,
+) -> Result<ClassAnswer, BoundsFault>
+    requires class { class < CLASSES }
+    requires periodic { All IsPeriodic streams.now }
+    requires some { 0 < length streams.now }
+    ensures answer { IfOk result (λ a. a ≡ exact_answer settings.now schedule.now streams.now class) }
+    ensures memory { IfErr result (λ fault. fault ≡ Faults.Memory) }
+{
+    let flows = flows_of(alloc, settings.port.rate(), streams)?;
+    let _entries = schedule.len();
+    let answer = bound_flows(
+        &alloc,
+        schedule,
+        class,
+        settings.port.room(),
+        flows.as_slice(),
+        settings.frames,
+    );
+    apart_answer(alloc, streams, answer)
+}
+
+/// The bounds of a class with these streams, as far as there is room for the frames that may wait.
+fn within_room(
+    alloc: Global,
+    room: u32,
+    bounds: Bounds,
+    streams: &[Stream],
+) -> Result<ClassAnswer, BoundsFault>
+    ensures answer { IfOk result (λ a. a ≡ within_room (nat_le bounds.most room) bounds streams.now) }
+    ensures memory { IfErr result (λ fault. fault ≡ Faults.Memory) }
+{
+    let most = bounds.most;
+    if most as u128 <= u128::from(room) {
+        let reached = are_alike(streams);
+        let ranges = ranges_of(alloc, bounds.wait, streams)?;
+        Ok(ClassAnswer::new(Verdict::Within { most, reached }, ranges))
+    } else {
+        Ok(ClassAnswer::new(Verdict::Crowded { most }, Vec::new(alloc)))
+    }
+}
+
+/// The answer about a class with these streams, by its least bounds.
+fn burst_answer(
+    alloc: Global,
+    room: u32,
+    streams: &[Stream],
+    told: Result<Bounds, BurstUnbound>,
+) -> Result<ClassAnswer, BoundsFault>
+    ensures answer { IfOk result (λ a. a ≡ burst_answer room streams.now told) }
+    ensures known { IfOk result (λ a. told ≢ Err Bursts.Memory) }
+    ensures memory { IfErr result (λ fault. fault ≡ Faults.Memory) }
+{
+    let why = match told {
+        Ok(bounds) => return within_room(alloc, room, bounds, streams),
+        Err(why) => why,
+    };
+    let verdict = match why {
+        BurstUnbound::Overloaded => Verdict::Overloaded { alone: false },
+        BurstUnbound::Stuck => Verdict::Unfit,
+        BurstUnbound::Long => Verdict::Long,
+        BurstUnbound::Memory => return Err(BoundsFault::Memory),
+    };
+    Ok(ClassAnswer::new(verdict, Vec::new(alloc)))
+}
+
+/// The answer about a class with these streams, whose frames come whenever they may, in a schedule that keeps it apart.
+fn any_answer(
+    alloc: Global,
+    settings: &BoundsSettings,
+    change: &Change,
+    schedule: &Schedule,
+    streams: &[Stream],
+    class: u8,
+) -> Result<ClassAnswer, BoundsFault>
+    requires class { class < CLASSES }
+    requires plan { schedule.now ≡ plan_asked change.now }
+    requires periodic { All IsPeriodic streams.now }
+    requires some { 0 < length streams.now }
+    ensures answer { IfOk result (λ a. IsBurstAnswer settings.now change.now streams.now class a) }
+    ensures memory { IfErr result (λ fault. fault ≡ Faults.Memory) }
+{
+    let talkers = talkers_of(alloc, settings.port.rate(), streams)?;
+    let limit = settings.frames.min(u64::from(u32::MAX)) as u32;
+    let told = burst_bounds(&alloc, schedule, class, talkers.as_slice(), limit);
+    burst_answer(alloc, settings.port.room(), streams, told)
 }
 
 /// The answer about a class.
@@ -111,26 +206,22 @@ fn class_answer(
     requires class { class < CLASSES }
     requires plan { schedule.now ≡ plan_asked change.now }
     requires periodic { All IsPeriodic streams.now }
-    ensures answer { IfOk result (λ a. a ≡ class_answer settings.now change.now streams.now class) }
+    ensures answer { IfOk result (IsClassAnswer settings.now change.now streams.now class) }
     ensures memory { IfErr result (λ fault. fault ≡ Faults.Memory) }
 {
-    let flows = flows_of(alloc, settings, change, streams, class)?;
-    if flows.len() == 0 {
+    let own = streams_of(alloc, settings, change, streams, class)?;
+    let own = own.as_slice();
+    if own.len() == 0 {
         return Ok(ClassAnswer::new(Verdict::Idle, Vec::new(alloc)));
     }
     if !schedule.keeps_apart(class) {
         return Ok(ClassAnswer::new(Verdict::Shared, Vec::new(alloc)));
     }
-    let _entries = schedule.len();
-    let answer = bound_flows(
-        &alloc,
-        schedule,
-        class,
-        settings.port.room(),
-        flows.as_slice(),
-        settings.frames,
-    );
-    apart_answer(alloc, settings, change, streams, class, answer)
+    if has_inexact(own) {
+        any_answer(alloc, settings, change, schedule, own, class)
+    } else {
+        exact_answer(alloc, settings, schedule, own, class)
+    }
 }
 
 /// The answers about all classes.
@@ -159,7 +250,7 @@ fn all_answers(
 ) -> Result<[ClassAnswer; CLASSES], BoundsFault>
     requires plan { schedule.now ≡ plan_asked change.now }
     requires periodic { All IsPeriodic streams.now }
-    ensures answers { IfOk result (λ a. a ≡ class_answers settings.now change.now streams.now) }
+    ensures answers { IfOk result (AreClassAnswers settings.now change.now streams.now) }
     ensures memory { IfErr result (λ fault. fault ≡ Faults.Memory) }
 {
     Ok([
@@ -202,7 +293,7 @@ impl Answers {
     ) -> Result<Answers, BoundsFault>
         requires plan { schedule.now ≡ plan_asked change.now }
         requires periodic { All IsPeriodic streams.now }
-        ensures answers { IfOk result (λ a. a ≡ class_answers settings.now change.now streams.now) }
+        ensures answers { IfOk result (AreClassAnswers settings.now change.now streams.now) }
         ensures memory { IfErr result (λ fault. fault ≡ Faults.Memory) }
     {
         let classes = all_answers(alloc, settings, change, schedule, streams)?;

@@ -1,17 +1,19 @@
 //! What is answered about a schedule command.
 
-ghost use Rattle.std.specs.Prelude.{◌≡◌, All, IfOk, List, None, Option, Result, Some, true, false, ℕ};
+ghost use Rattle.std.specs.Prelude.{◌≡◌, All, Err, IfOk, List, MatchResult, None, Ok, Option, Result, Some, true, false, ℕ};
+ghost use Rattle.job.specs.declared.fault.Fault.TheVariants as Faults;
 ghost use Rattle.octet_writer.specs.Writes.{Writes};
-ghost use Rattle.stream_bounds.specs.Verdicts.{class_answers};
+ghost use Rattle.stream_bounds.specs.Verdicts.{AreClassAnswers};
 ghost use Rattle.stream_bounds.specs.declared.faults.Answered.{Answered};
-ghost use Rattle.stream_bounds.specs.declared.faults.Finding.TheVariants as Findings;
-ghost use Rattle.answer_text.specs.Lines.{refused_line};
+ghost use Rattle.stream_bounds.specs.declared.settings.BoundsSettings.{BoundsSettings};
+ghost use Rattle.abstract_port.specs.declared.Change.{Change};
+ghost use Rattle.traffic.specs.declared.table.Stream.{Stream};
 ghost use Rattle.schedule_check.specs.Refusals.{early_refusal};
 ghost use Rattle.abstract_port.specs.AbstractPort.{plan_asked};
 ghost use Rattle.abstract_port.specs.declared.Command.{Command};
 ghost use Rattle.stream_bounds.specs.BoundLines.{accepted_finding, change_answered, change_lines, command_answered, command_lines};
 ghost use Rattle.stream_bounds.specs.Classes.{IsPeriodic, port_before, refusal_of};
-ghost use Rattle.stream_bounds.specs.TableRead.{Tells};
+ghost use Rattle.stream_bounds.specs.TableRead.{Tells, TellsChange, TellsLine};
 ghost use Rattle.tc_reader.specs.Reader.{IsReader};
 ghost use Rattle.tc_reader.specs.declared.fault.TcFault.{TcFault};
 ghost use Rattle.words.specs.Words.{words_of};
@@ -34,7 +36,7 @@ use traffic::Stream;
 
 /// What a call that writes answers, as what a call answers that may fail otherwise too.
 fn told(written: Result<Answered, WriteFault>) -> Result<Answered, BoundsFault>
-    ensures { (old new : Option (List ℕ)) (text : List ℕ) (answered : Answered) → Writes written old new text → IfOk written (λ told. told ≡ answered) → Tells result old new text answered }
+    ensures { MatchResult written (λ answered. result ≡ Ok answered) (λ _. result ≡ Err Faults.Write) }
 {
     match written {
         Ok(answered) => Ok(answered),
@@ -53,9 +55,10 @@ fn put_answers<W: Write>(
     answers: &mut Answers,
 ) -> Result<Answered, WriteFault>
     requires plan { schedule.now ≡ plan_asked change.now }
-    requires answers { answers.old ≡ class_answers settings.now change.now streams.now }
-    ensures lines { Writes result (W.contents writer.old) (W.contents writer.new) (change_lines None settings.now change.now streams.now) }
-    ensures answered { IfOk result (λ told. told ≡ record { finding = accepted_finding settings.now change.now streams.now; judged = true }) }
+    ensures lines { Writes result (W.contents writer.old) (W.contents writer.new)
+        (change_lines None settings.now change.now streams.now answers.old) }
+    ensures answered { IfOk result (λ told. told ≡ record {
+        finding = accepted_finding settings.now change.now streams.now answers.old; judged = true }) }
 {
     let count = class_count(map_after(settings.map, change.map));
     put_apart(writer, &classes_apart(schedule, count))?;
@@ -82,7 +85,8 @@ fn put_schedule<W: Write, H: Watch>(
 ) -> Result<Answered, BoundsFault>
     requires plan { schedule.now ≡ plan_asked change.now }
     requires periodic { All IsPeriodic streams.now }
-    ensures { (line : ℕ) → Tells result (W.contents writer.old) (W.contents writer.new) (change_lines None settings.now change.now streams.now) (change_answered line None settings.now change.now streams.now) }
+    ensures { TellsChange result number None settings.now change.now streams.now
+        (W.contents writer.old) (W.contents writer.new) }
 {
     match Answers::new(alloc, settings, change, schedule, streams) {
         Ok(mut answers) => {
@@ -99,7 +103,8 @@ fn put_schedule<W: Write, H: Watch>(
 
 /// Why a line changes nothing, in the words of an answer.
 fn put_refusal<W: Write>(writer: &mut W, line: u32, why: Refused) -> Result<Answered, BoundsFault>
-    ensures { Tells result (W.contents writer.old) (W.contents writer.new) (refused_line why) (record { finding = Some (Findings.Refused line); judged = false }) }
+    ensures { (settings : BoundsSettings) (change : Change) (streams : List Stream) →
+        TellsChange result line (Some why) settings change streams (W.contents writer.old) (W.contents writer.new) }
 {
     match put_refused(writer, why) {
         Ok(()) => Ok(Answered {
@@ -122,7 +127,8 @@ fn put_fitting<W: Write, H: Watch>(
 ) -> Result<Answered, BoundsFault>
     requires periodic { All IsPeriodic streams.now }
     requires fitting { early_refusal (port_before settings.now) change.now ≡ None }
-    ensures { Tells result (W.contents writer.old) (W.contents writer.new) (change_lines (refusal_of settings.now change.now) settings.now change.now streams.now) (change_answered line (refusal_of settings.now change.now) settings.now change.now streams.now) }
+    ensures { TellsChange result line (refusal_of settings.now change.now) settings.now change.now streams.now
+        (W.contents writer.old) (W.contents writer.new) }
 {
     let schedule = Schedule::new(
         &change.list,
@@ -150,7 +156,8 @@ fn put_change<W: Write, H: Watch>(
     watch: &mut H,
 ) -> Result<Answered, BoundsFault>
     requires { All IsPeriodic streams.now }
-    ensures { Tells result (W.contents writer.old) (W.contents writer.new) (change_lines (refusal_of settings.now change.now) settings.now change.now streams.now) (change_answered line (refusal_of settings.now change.now) settings.now change.now streams.now) }
+    ensures { TellsChange result line (refusal_of settings.now change.now) settings.now change.now streams.now
+        (W.contents writer.old) (W.contents writer.new) }
 {
     match early_refusal(settings.port.mtu(), settings.map, change) {
         Some(why) => put_refusal(writer, line, why),
@@ -169,7 +176,7 @@ fn put_command<W: Write, H: Watch>(
     watch: &mut H,
 ) -> Result<Answered, BoundsFault>
     requires { All IsPeriodic streams.now }
-    ensures { Tells result (W.contents writer.old) (W.contents writer.new) (command_lines settings.now streams.now read) (command_answered line settings.now streams.now read) }
+    ensures { TellsLine result line settings.now streams.now read (W.contents writer.old) (W.contents writer.new) }
 {
     match read {
         Ok(Command::Replace(change)) => {
@@ -206,7 +213,8 @@ pub fn put_line<W: Write, H: Watch>(
 ) -> Result<Answered, BoundsFault>
     requires { All IsPeriodic streams.now }
     ensures { (read : List (List ℕ) → Result Command TcFault) → IsReader read →
-        Tells result (W.contents writer.old) (W.contents writer.new) (command_lines settings.now streams.now (read (words_of line.now))) (command_answered number settings.now streams.now (read (words_of line.now))) }
+        TellsLine result number settings.now streams.now (read (words_of line.now))
+        (W.contents writer.old) (W.contents writer.new) }
 {
     put_command(
         alloc,

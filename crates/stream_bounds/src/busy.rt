@@ -6,7 +6,7 @@ ghost use Rattle.stream_bounds.specs.Classes.{IsPeriodic};
 ghost use Rattle.wire_time.specs.Moment.{greatest_moment};
 
 use crate::answers::Answers;
-use crate::classes::flows_of;
+use crate::classes::{flows_of, streams_of};
 use crate::settings::BoundsSettings;
 use crate::verdicts::Verdict;
 use abstract_port::Change;
@@ -71,7 +71,8 @@ fn with_one_more(
     requires within { every ≤ greatest_moment }
     ensures { IfSome result (λ flows. (All IsFlow flows.items) × (0 < length flows.items)) }
 {
-    let mut flows = flows_of(alloc, settings, change, streams, class).ok()?;
+    let own = streams_of(alloc, settings, change, streams, class).ok()?;
+    let mut flows = flows_of(alloc, settings.port.rate(), own.as_slice()).ok()?;
     let shortest = shortest(flows.as_slice())?;
     flows.push(repeated(shortest, every)).ok()?;
     Some(flows)

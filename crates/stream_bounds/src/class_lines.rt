@@ -2,7 +2,7 @@
 
 ghost use Rattle.std.specs.Prelude.{◌≡◌, Some};
 ghost use Rattle.octet_writer.specs.Writes.{Writes};
-ghost use Rattle.stream_bounds.specs.BoundLines.{bounded_line, class_finding, class_finding_in, class_head, class_line, class_lines, full_end, full_line, place_text, stuck_line, word_line};
+ghost use Rattle.stream_bounds.specs.BoundLines.{bounded_line, class_finding, class_finding_in, class_head, class_line, class_lines, full_end, full_line, place_text, stuck_line, within_line, word_line};
 ghost use Rattle.wire_time.specs.declared.TheConstants.{CLASSES};
 
 use crate::answers::Answers;
@@ -125,6 +125,29 @@ fn put_bounded<W: Write>(
     )
 }
 
+/// Writes the line of a class whose frames wait within bounds, whenever they come.
+fn put_within<W: Write>(
+    writer: &mut W,
+    class: u8,
+    room: u32,
+    most: usize,
+) -> Result<(), WriteFault>
+    ensures { Writes result (W.contents writer.old) (W.contents writer.new) (within_line class room most) }
+{
+    put_parts(
+        writer,
+        &[
+            Part::Text(b"class "),
+            Part::Number(u128::from(class)),
+            Part::Text(b" within most "),
+            Part::Number(most as u128),
+            Part::Text(b" of "),
+            Part::Number(u128::from(room)),
+            Part::Text(b"\n"),
+        ],
+    )
+}
+
 /// Writes the line of a class, where it has streams.
 fn put_class<W: Write>(
     writer: &mut W,
@@ -142,8 +165,11 @@ fn put_class<W: Write>(
             frames,
             every,
         } => put_bounded(writer, class, room, most, frames, every),
+        Verdict::Within { most, .. } => put_within(writer, class, room, most),
+        Verdict::Crowded { most } => put_within(writer, class, room, most),
         Verdict::Full { first, .. } => put_full_class(writer, class, first),
         Verdict::Stuck { never, full } => put_stuck(writer, class, never, full),
+        Verdict::Unfit => put_word(writer, class, b" stuck"),
         Verdict::Overloaded { .. } => put_word(writer, class, b" overloaded"),
         Verdict::Long => put_word(writer, class, b" long"),
         Verdict::Late => put_word(writer, class, b" late"),
@@ -166,10 +192,10 @@ fn class_finding(class: u8, verdict: Verdict) -> Option<Finding>
 {
     match verdict {
         Verdict::Full { .. } => Some(Finding::Full(class)),
-        Verdict::Stuck { .. } => Some(Finding::Stuck(class)),
+        Verdict::Stuck { .. } | Verdict::Unfit => Some(Finding::Stuck(class)),
         Verdict::Overloaded { .. } => Some(Finding::Overloaded(class)),
-        Verdict::Idle | Verdict::Shared | Verdict::Bounded { .. } | Verdict::Long | Verdict::Late =>
-            None,
+        Verdict::Bounded { .. } | Verdict::Within { .. } | Verdict::Crowded { .. } => None,
+        Verdict::Idle | Verdict::Shared | Verdict::Long | Verdict::Late => None,
     }
 }
 

@@ -1,30 +1,34 @@
-//! Which streams are of which class.
+//! Which streams are of which class, and what they are as flows.
 
-ghost use Rattle.std.specs.Prelude.{◌≡◌, ◌<◌, All, IfErr, IfOk, IfSome};
-ghost use Rattle.abstract_port.specs.AbstractPort.{class_for, limit_of};
+ghost use Rattle.std.specs.Prelude.{◌≡◌, ◌<◌, All, IfErr, IfOk, IfSome, map};
+ghost use Rattle.abstract_port.specs.AbstractPort.{class_for, limit_of, verdict};
 ghost use Rattle.wire_time.specs.declared.TheConstants.{CLASSES};
+ghost use Rattle.burst_bounds.specs.Talkers.{IsTalker};
 ghost use Rattle.delay_bounds.specs.Claim.{IsFlow};
 ghost use Rattle.job.specs.declared.fault.Fault.TheVariants as Faults;
-ghost use Rattle.stream_bounds.specs.Classes.{class_of, flow_of, flows_of, frame_of, ids_of, is_class, port_of, IsPeriodic};
+ghost use Rattle.stream_bounds.specs.Classes.{are_alike, both_taken, class_of, first_len, flow_of, frame_of, has_inexact, is_class, is_exact, is_free, port_of, streams_of, talker_of, IsPeriodic};
+ghost use Rattle.stream_bounds.specs.Verdicts.{late_by, range_of};
 
 use crate::faults::BoundsFault;
 use crate::settings::BoundsSettings;
+use crate::verdicts::plus;
 use abstract_port::{Change, Dropped};
-use delay_bounds::Flow;
+use burst_bounds::Talker;
+use delay_bounds::{Bound, Flow};
 use port::default_class;
 use schedule_check::map_after;
 use std::alloc::Allocator;
 use traffic::{Stream, earliest};
 use wire_time::{CLASSES, Frame, Rate, occupancy, sdu};
 
-/// The first frame of a stream.
-fn frame_of(stream: &Stream) -> Frame
-    ensures { result ≡ frame_of stream.now }
+/// A frame of a stream, of this length.
+fn frame_of(stream: &Stream, len: u32) -> Frame
+    ensures { result ≡ frame_of stream.now len }
 {
     Frame {
         id: stream.first_id,
         priority: stream.priority,
-        len: stream.len,
+        len,
         tagged: stream.tagged,
     }
 }
@@ -52,15 +56,15 @@ fn limit_of(settings: &BoundsSettings, change: &Change, class: u8) -> u32
     }
 }
 
-/// The class whose queue takes the frames of a stream, where there is room, or why each of them is dropped.
-pub fn class_of(settings: &BoundsSettings, change: &Change, stream: &Stream) -> Result<u8, Dropped>
-    ensures class { result ≡ class_of settings.now change.now stream.now }
+/// The class whose queue takes a frame, where there is room, or why it is dropped.
+fn class_by(settings: &BoundsSettings, change: &Change, frame: &Frame) -> Result<u8, Dropped>
+    ensures class { result ≡ verdict (port_of settings.now change.now) frame.now }
     ensures within { IfOk result (λ class. class < CLASSES) }
 {
-    let Some(class) = class_for(settings, change, stream.priority) else {
+    let Some(class) = class_for(settings, change, frame.priority) else {
         return Err(Dropped::NoClass);
     };
-    let Some(octets) = sdu(&frame_of(stream)) else {
+    let Some(octets) = sdu(frame) else {
         return Err(Dropped::Runt);
     };
     if settings.port.mtu() < octets {
@@ -76,6 +80,18 @@ pub fn class_of(settings: &BoundsSettings, change: &Change, stream: &Stream) -> 
     Ok(class)
 }
 
+/// The class whose queue takes the frames of a stream, where there is room; or why its longest frames are dropped, or
+/// else its shortest.
+pub fn class_of(settings: &BoundsSettings, change: &Change, stream: &Stream) -> Result<u8, Dropped>
+    ensures class { result ≡ class_of settings.now change.now stream.now }
+    ensures within { IfOk result (λ class. class < CLASSES) }
+{
+    match class_by(settings, change, &frame_of(stream, stream.len)) {
+        Ok(_) => class_by(settings, change, &frame_of(stream, stream.shortest)),
+        Err(why) => Err(why),
+    }
+}
+
 /// Whether that is this class.
 fn is_class(class: u8, found: Result<u8, Dropped>) -> bool
     ensures { result ≡ is_class class found }
@@ -84,6 +100,31 @@ fn is_class(class: u8, found: Result<u8, Dropped>) -> bool
         Ok(other) => other == class,
         Err(_) => false,
     }
+}
+
+/// The streams of a class, in the order of the table.
+pub fn streams_of<A: Allocator>(
+    alloc: A,
+    settings: &BoundsSettings,
+    change: &Change,
+    streams: &[Stream],
+    class: u8,
+) -> Result<Vec<Stream, A>, BoundsFault>
+    requires { All IsPeriodic streams.now }
+    ensures streams { IfOk result (λ own. own.items ≡ streams_of settings.now change.now class streams.now) }
+    ensures periodic { IfOk result (λ own. All IsPeriodic own.items) }
+    ensures memory { IfErr result (λ fault. fault ≡ Faults.Memory) }
+{
+    let mut own = Vec::new(alloc);
+    for stream in streams {
+        if is_class(class, class_of(settings, change, stream)) {
+            match own.push(*stream) {
+                Ok(()) => {}
+                Err(_) => return Err(BoundsFault::Memory),
+            }
+        }
+    }
+    Ok(own)
 }
 
 /// A stream as a flow that goes on for ever.
@@ -99,50 +140,150 @@ fn flow_of(rate: Rate, stream: &Stream) -> Flow
     }
 }
 
-/// The flows of a class.
+/// Streams as flows.
 pub fn flows_of<A: Allocator>(
     alloc: A,
-    settings: &BoundsSettings,
-    change: &Change,
+    rate: Rate,
     streams: &[Stream],
-    class: u8,
 ) -> Result<Vec<Flow, A>, BoundsFault>
     requires { All IsPeriodic streams.now }
-    ensures flows { IfOk result (λ flows. flows.items ≡ flows_of settings.now change.now class streams.now) }
+    ensures flows { IfOk result (λ flows. flows.items ≡ map (flow_of rate) streams.now) }
     ensures fit { IfOk result (λ flows. All IsFlow flows.items) }
     ensures memory { IfErr result (λ fault. fault ≡ Faults.Memory) }
 {
     let mut flows = Vec::new(alloc);
     for stream in streams {
-        if is_class(class, class_of(settings, change, stream)) {
-            match flows.push(flow_of(settings.port.rate(), stream)) {
-                Ok(()) => {}
-                Err(_) => return Err(BoundsFault::Memory),
-            }
+        match flows.push(flow_of(rate, stream)) {
+            Ok(()) => {}
+            Err(_) => return Err(BoundsFault::Memory),
         }
     }
     Ok(flows)
 }
 
-/// The first ids of the streams of a class.
-pub fn ids_of<A: Allocator>(
+/// A stream as a talker, of whose frames is known how far apart they come.
+fn talker_of(rate: Rate, stream: &Stream) -> Talker
+    requires { IsPeriodic stream.now }
+    ensures talker { result ≡ talker_of rate stream.now }
+    ensures fits { IsTalker result }
+{
+    Talker {
+        need: occupancy(rate, stream.len),
+        period: stream.period,
+        jitter: stream.jitter,
+    }
+}
+
+/// Streams as talkers.
+pub fn talkers_of<A: Allocator>(
     alloc: A,
-    settings: &BoundsSettings,
-    change: &Change,
+    rate: Rate,
     streams: &[Stream],
-    class: u8,
-) -> Result<Vec<u64, A>, BoundsFault>
-    ensures ids { IfOk result (λ ids. ids.items ≡ ids_of settings.now change.now class streams.now) }
+) -> Result<Vec<Talker, A>, BoundsFault>
+    requires { All IsPeriodic streams.now }
+    ensures talkers { IfOk result (λ talkers. talkers.items ≡ map (talker_of rate) streams.now) }
+    ensures fit { IfOk result (λ talkers. All IsTalker talkers.items) }
+    ensures memory { IfErr result (λ fault. fault ≡ Faults.Memory) }
+{
+    let mut talkers = Vec::new(alloc);
+    for stream in streams {
+        match talkers.push(talker_of(rate, stream)) {
+            Ok(()) => {}
+            Err(_) => return Err(BoundsFault::Memory),
+        }
+    }
+    Ok(talkers)
+}
+
+/// By how much a frame of a stream may come later than the moment that its bounds count from.
+fn late_by(stream: &Stream) -> u128
+    ensures { result ≡ late_by stream.now }
+{
+    match stream.offset {
+        Some(_) => stream.jitter,
+        None => 0,
+    }
+}
+
+/// The bounds of a stream of a class whose frames wait for so long at most.
+fn range_of(wait: u128, stream: &Stream) -> Bound
+    ensures { result ≡ range_of wait stream.now }
+{
+    Bound {
+        least: 0,
+        greatest: plus(wait, late_by(stream)),
+    }
+}
+
+/// The bounds of the streams of a class whose frames wait for so long at most.
+pub fn ranges_of<A: Allocator>(
+    alloc: A,
+    wait: u128,
+    streams: &[Stream],
+) -> Result<Vec<Bound, A>, BoundsFault>
+    ensures ranges { IfOk result (λ ranges. ranges.items ≡ map (range_of wait) streams.now) }
+    ensures memory { IfErr result (λ fault. fault ≡ Faults.Memory) }
+{
+    let mut ranges = Vec::new(alloc);
+    for stream in streams {
+        match ranges.push(range_of(wait, stream)) {
+            Ok(()) => {}
+            Err(_) => return Err(BoundsFault::Memory),
+        }
+    }
+    Ok(ranges)
+}
+
+/// The first ids of streams.
+pub fn ids_of<A: Allocator>(alloc: A, streams: &[Stream]) -> Result<Vec<u64, A>, BoundsFault>
+    ensures ids { IfOk result (λ ids. ids.items ≡ map (λ x. x.first_id) streams.now) }
     ensures memory { IfErr result (λ fault. fault ≡ Faults.Memory) }
 {
     let mut ids = Vec::new(alloc);
     for stream in streams {
-        if is_class(class, class_of(settings, change, stream)) {
-            match ids.push(stream.first_id) {
-                Ok(()) => {}
-                Err(_) => return Err(BoundsFault::Memory),
-            }
+        match ids.push(stream.first_id) {
+            Ok(()) => {}
+            Err(_) => return Err(BoundsFault::Memory),
         }
     }
     Ok(ids)
+}
+
+/// Whether the frames of a stream come at exact moments, and have one length.
+fn is_exact(stream: &Stream) -> bool
+    ensures { result ≡ is_exact stream.now }
+{
+    stream.offset.is_some() && stream.jitter == 0 && stream.shortest == stream.len
+}
+
+/// Whether those of some stream do not.
+pub fn has_inexact(streams: &[Stream]) -> bool
+    ensures { result ≡ has_inexact streams.now }
+{
+    streams.iter().any(|stream| !is_exact(stream))
+}
+
+/// Whether nothing is known of when the frames of a stream come but how far apart, and they have this length.
+fn is_free(len: u32, stream: &Stream) -> bool
+    ensures { result ≡ is_free len stream.now }
+{
+    stream.offset.is_none() && stream.len == len && stream.shortest == len
+}
+
+/// The length of the first stream's frames.
+fn first_len(streams: &[Stream]) -> u32
+    ensures { result ≡ first_len streams.now }
+{
+    match streams {
+        [] => 0,
+        [first, ..] => first.len,
+    }
+}
+
+/// Whether it is so of each stream, with one length for all.
+pub fn are_alike(streams: &[Stream]) -> bool
+    ensures { result ≡ are_alike streams.now }
+{
+    let len = first_len(streams);
+    streams.iter().all(|stream| is_free(len, stream))
 }

@@ -2,39 +2,65 @@
 
 ghost use Rattle.std.specs.Prelude.{◌≡◌, IfOk};
 ghost use Rattle.octet_writer.specs.Writes.{Writes};
-ghost use Rattle.stream_bounds.specs.BoundLines.{bound_head, bound_line, bound_lines, deadline_end, delay_text, finding_in, first_of, lost, met_word, stream_finding, unmet};
+ghost use Rattle.stream_bounds.specs.BoundLines.{bound_head, bound_line, bound_lines, deadline_end, delay_text, finding_in, first_of, lost, met_word, range_text, stream_finding, unmet};
+ghost use Rattle.stream_bounds.specs.Verdicts.{needs_of};
 
 use crate::answers::Answers;
 use crate::classes::class_of;
 use crate::faults::Finding;
 use crate::settings::BoundsSettings;
-use crate::verdicts::{Delay, Met, met_by, plus};
+use crate::verdicts::{Delay, Met, Needs, met_by, plus};
 use abstract_port::Change;
 use answer_text::{Part, WriteFault, dropped_name, put_parts};
+use delay_bounds::Bound;
 use std::io::Write;
 use traffic::Stream;
-use wire_time::occupancy;
+use wire_time::{Rate, occupancy};
+
+/// How long the frames of a stream occupy the wire.
+fn needs_of(rate: Rate, stream: &Stream) -> Needs
+    ensures { result ≡ needs_of rate stream.now }
+{
+    Needs {
+        shortest: occupancy(rate, stream.shortest),
+        longest: occupancy(rate, stream.len),
+    }
+}
+
+/// Writes how long frames of a class take, to their starts and to their ends, behind a word that says how that is meant.
+fn put_range<W: Write>(
+    writer: &mut W,
+    class: u8,
+    word: &[u8],
+    bound: Bound,
+    needs: Needs,
+) -> Result<(), WriteFault>
+    ensures { Writes result (W.contents writer.old) (W.contents writer.new) (range_text class word.now bound needs) }
+{
+    put_parts(
+        writer,
+        &[
+            Part::Text(b" class "),
+            Part::Number(u128::from(class)),
+            Part::Text(word),
+            Part::Number(bound.least),
+            Part::Text(b" to "),
+            Part::Number(bound.greatest),
+            Part::Text(b" end "),
+            Part::Number(plus(bound.least, needs.shortest)),
+            Part::Text(b" to "),
+            Part::Number(plus(bound.greatest, needs.longest)),
+        ],
+    )
+}
 
 /// Writes what is told of a stream whose frames occupy the wire for so long, before its deadline.
-fn put_delay<W: Write>(writer: &mut W, need: u128, delay: Delay) -> Result<(), WriteFault>
-    ensures { Writes result (W.contents writer.old) (W.contents writer.new) (delay_text need delay) }
+fn put_delay<W: Write>(writer: &mut W, needs: Needs, delay: Delay) -> Result<(), WriteFault>
+    ensures { Writes result (W.contents writer.old) (W.contents writer.new) (delay_text needs delay) }
 {
     match delay {
-        Delay::Within(class, bound) => put_parts(
-            writer,
-            &[
-                Part::Text(b" class "),
-                Part::Number(u128::from(class)),
-                Part::Text(b" wait "),
-                Part::Number(bound.least),
-                Part::Text(b" to "),
-                Part::Number(bound.greatest),
-                Part::Text(b" end "),
-                Part::Number(plus(bound.least, need)),
-                Part::Text(b" to "),
-                Part::Number(plus(bound.greatest, need)),
-            ],
-        ),
+        Delay::Exact(class, bound) => put_range(writer, class, b" wait ", bound, needs),
+        Delay::Within(class, bound, _) => put_range(writer, class, b" within ", bound, needs),
         Delay::Unbounded(class) | Delay::Unsettled(class) => put_parts(
             writer,
             &[
@@ -72,11 +98,11 @@ fn met_word(met: Met) -> &'static [u8]
 /// Writes the end of a stream's line.
 fn put_end<W: Write>(
     writer: &mut W,
-    need: u128,
+    needs: Needs,
     delay: Delay,
     deadline: Option<u128>,
 ) -> Result<(), WriteFault>
-    ensures { Writes result (W.contents writer.old) (W.contents writer.new) (deadline_end need delay deadline) }
+    ensures { Writes result (W.contents writer.old) (W.contents writer.new) (deadline_end needs delay deadline) }
 {
     match deadline {
         None => put_parts(writer, &[Part::Text(b"\n")]),
@@ -85,7 +111,7 @@ fn put_end<W: Write>(
             &[
                 Part::Text(b" deadline "),
                 Part::Number(deadline),
-                Part::Text(met_word(met_by(need, delay, deadline))),
+                Part::Text(met_word(met_by(needs, delay, deadline))),
             ],
         ),
     }
@@ -104,15 +130,15 @@ fn put_head<W: Write>(writer: &mut W, id: u64) -> Result<(), WriteFault>
 /// Writes the line of a stream.
 fn put_stream<W: Write>(
     writer: &mut W,
-    need: u128,
+    needs: Needs,
     stream: &Stream,
     delay: Delay,
 ) -> Result<(), WriteFault>
-    ensures { Writes result (W.contents writer.old) (W.contents writer.new) (bound_line need stream.now delay) }
+    ensures { Writes result (W.contents writer.old) (W.contents writer.new) (bound_line needs stream.now delay) }
 {
     put_head(writer, stream.first_id)?;
-    put_delay(writer, need, delay)?;
-    put_end(writer, need, delay, stream.deadline)
+    put_delay(writer, needs, delay)?;
+    put_end(writer, needs, delay, stream.deadline)
 }
 
 /// The finding about a deadline.
@@ -137,12 +163,12 @@ fn lost(id: u64, delay: Delay) -> Option<Finding>
 }
 
 /// The finding about a stream: its deadline is not known to be met, or it has none and is dropped.
-fn stream_finding(need: u128, stream: &Stream, delay: Delay) -> Option<Finding>
-    ensures { result ≡ stream_finding need stream.now delay stream.now.deadline }
+fn stream_finding(needs: Needs, stream: &Stream, delay: Delay) -> Option<Finding>
+    ensures { result ≡ stream_finding needs stream.now delay stream.now.deadline }
 {
     match stream.deadline {
         None => lost(stream.first_id, delay),
-        Some(deadline) => unmet(stream.first_id, met_by(need, delay, deadline)),
+        Some(deadline) => unmet(stream.first_id, met_by(needs, delay, deadline)),
     }
 }
 
@@ -169,10 +195,10 @@ pub fn put_streams<W: Write>(
 {
     let mut first = None;
     for stream in streams {
-        let need = occupancy(settings.port.rate(), stream.len);
+        let needs = needs_of(settings.port.rate(), stream);
         let delay = answers.next_delay(class_of(settings, change, stream));
-        put_stream(writer, need, stream, delay)?;
-        first = first_of(first, stream_finding(need, stream, delay));
+        put_stream(writer, needs, stream, delay)?;
+        first = first_of(first, stream_finding(needs, stream, delay));
     }
     Ok(first)
 }

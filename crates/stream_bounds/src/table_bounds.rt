@@ -7,8 +7,8 @@ ghost use Rattle.job.specs.declared.fault.Fault.TheVariants as Faults;
 ghost use Rattle.line_reader.specs.LineReader.{current_number, script_left};
 ghost use Rattle.stream_bounds.specs.BoundLines.{joined};
 ghost use Rattle.stream_bounds.specs.Classes.{IsPeriodic};
-ghost use Rattle.stream_bounds.specs.Outcome.{begun_with, bounds_in, end_fault, found_in_all, outcome_in, outcome_of, periodic, told_if};
-ghost use Rattle.stream_bounds.specs.TableRead.{IsEnd};
+ghost use Rattle.stream_bounds.specs.Outcome.{AreAnswers, IsBounded, IsOutcome, begun_with, bounds_in, end_fault, found_in_all, periodic, told_if};
+ghost use Rattle.stream_bounds.specs.TableRead.{IsEnd, RunsLines, may_stop};
 ghost use Rattle.stream_bounds.specs.declared.faults.BoundsInput.TheVariants as Inputs;
 ghost use Rattle.tc_reader.specs.Reader.{IsReader};
 ghost use Rattle.tc_reader.specs.declared.fault.TcFault.{TcFault};
@@ -103,7 +103,7 @@ fn bound_lines<A: Allocator, R: Read + Drop, W: Write, H: Watch>(
     requires { All IsPeriodic streams.now }
     ensures { (read : List (List ℕ) → Result Command TcFault) → IsReader read
         → IfSome (script_left R.remaining lines.old) (λ script.
-        Runs result (W.contents writer.old) (W.contents writer.new) (bounds_in read settings.now streams.now (begun_with streams.now) script)) }
+        RunsLines result read settings.now streams.now script (W.contents writer.old) (W.contents writer.new)) }
 {
     let mut so_far = begun_with(streams);
     'lines: loop {
@@ -143,7 +143,8 @@ fn bound_table<A: Allocator, R: Read + Drop, S: Read + Drop, W: Write, H: Watch>
 ) -> Result<(), BoundsFault>
     ensures { (read : List (List ℕ) → Result Command TcFault) → IsReader read
         → IfSome (script_left R.remaining table.old) (λ table. IfSome (script_left S.remaining schedules.old) (λ script.
-        Runs result (W.contents writer.old) (W.contents writer.new) (outcome_in read settings.now (table_by periodic table) script))) }
+        IsBounded (may_stop result) read settings.now (table_by periodic table) script
+        (Runs result (W.contents writer.old) (W.contents writer.new)))) }
 {
     let mut streams = Vec::new(alloc);
     match read_streams(table, &mut streams, watch) {
@@ -181,7 +182,8 @@ pub fn bounds<R: Read + Drop, S: Read + Drop, W: Write, H: Watch>(
 ) -> Result<(), BoundsFault>
     ensures { (read : List (List ℕ) → Result Command TcFault) → IsReader read
         → IfSome (R.remaining table) (λ table. IfSome (S.remaining schedules) (λ schedules.
-        Runs result (W.contents writer.old) (W.contents writer.new) (outcome_of read settings table schedules))) }
+        IsOutcome (may_stop result) read settings table schedules
+        (Runs result (W.contents writer.old) (W.contents writer.new)))) }
 {
     let mut table = LineReader::new(&alloc, table)?;
     let mut schedules = LineReader::new(&alloc, schedules)?;

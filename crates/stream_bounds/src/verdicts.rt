@@ -1,7 +1,7 @@
 //! The verdict about a class, and the delay of a stream.
 
 ghost use Rattle.std.specs.Prelude.{◌≡◌, Err};
-ghost use Rattle.stream_bounds.specs.Verdicts.{delay_by, full_behind, is_alone, losing, met_by, place_of, plus, verdict_of};
+ghost use Rattle.stream_bounds.specs.Verdicts.{delay_by, full_behind, is_alone, losing, met_by, met_within, place_of, plus, verdict_of};
 
 use abstract_port::Dropped;
 use delay_bounds::{Bound, Refused, Unbound};
@@ -17,6 +17,15 @@ pub struct Place {
     pub number: u128,
 }
 
+/// How long the frames of a stream occupy the wire, in picoseconds.
+#[derive(Clone, Copy, Debug, PartialEq, Eq)]
+pub struct Needs {
+    /// The shortest.
+    pub shortest: u128,
+    /// The longest.
+    pub longest: u128,
+}
+
 /// The verdict about a class.
 #[derive(Clone, Copy, Debug, PartialEq, Eq)]
 pub enum Verdict {
@@ -24,12 +33,21 @@ pub enum Verdict {
     Idle,
     /// It isn't kept apart.
     Shared,
-    /// Its delays have bounds: the most frames that ever wait at once, and how many frames come in how many
-    /// picoseconds.
+    /// Its delays are known: the most frames that ever wait at once, and how many frames come in how many picoseconds.
     Bounded {
         most: usize,
         frames: u64,
         every: u128,
+    },
+    /// Its delays have bounds, whenever its frames come: the most frames that may wait at once, and whether a frame of
+    /// each stream may wait for so long.
+    Within {
+        most: usize,
+        reached: bool,
+    },
+    /// More of its frames may wait at once than there is room for.
+    Crowded {
+        most: usize,
     },
     /// The first frame that finds no room, and whether the class has no other stream than its.
     Full {
@@ -42,7 +60,9 @@ pub enum Verdict {
         never: Place,
         full: Option<Place>,
     },
-    /// So many frames as may be were looked at, and the backlog grows for ever; and whether the class has one stream.
+    /// No window takes its longest frame: that one never starts, nor does any behind it.
+    Unfit,
+    /// In the long run more frames come than leave; and whether it is known that its only stream loses some.
     Overloaded {
         alone: bool,
     },
@@ -55,8 +75,10 @@ pub enum Verdict {
 /// The delay of a stream.
 #[derive(Clone, Copy, Debug, PartialEq, Eq)]
 pub enum Delay {
-    /// Its frames are of this class, and wait for so long.
-    Within(u8, Bound),
+    /// Its frames are of this class, and wait for just so long.
+    Exact(u8, Bound),
+    /// They are of this class, and start within such a time, whenever they come; and whether one may take so long.
+    Within(u8, Bound, bool),
     /// They are of this class, and some are lost, or never start.
     Unbounded(u8),
     /// They are of this class, some of whose streams lose frames. Which ones do is not known.
@@ -150,25 +172,39 @@ pub fn delay_by(class: u8, verdict: Verdict, bound: Bound) -> Delay
     ensures { result ≡ delay_by class verdict bound }
 {
     match verdict {
-        Verdict::Bounded { .. } => Delay::Within(class, bound),
-        Verdict::Stuck { .. } => Delay::Unbounded(class),
+        Verdict::Bounded { .. } => Delay::Exact(class, bound),
+        Verdict::Within { reached, .. } => Delay::Within(class, bound, reached),
+        Verdict::Stuck { .. } | Verdict::Unfit => Delay::Unbounded(class),
         Verdict::Full { alone, .. } | Verdict::Overloaded { alone } => losing(class, alone),
-        Verdict::Idle | Verdict::Shared | Verdict::Long | Verdict::Late => Delay::Unknown(class),
+        Verdict::Idle | Verdict::Shared | Verdict::Crowded { .. } => Delay::Unknown(class),
+        Verdict::Long | Verdict::Late => Delay::Unknown(class),
     }
 }
 
-/// Whether a deadline is met, in picoseconds from a frame's arrival to the end of its time on the wire, where it
-/// occupies the wire for `need`.
-pub fn met_by(need: u128, delay: Delay, deadline: u128) -> Met
-    ensures { result ≡ met_by need delay deadline }
+/// Whether a deadline is met, where a frame has left by `end`, and whether one may take so long.
+fn met_within(end: u128, deadline: u128, reached: bool) -> Met
+    ensures { result ≡ met_within end deadline reached }
+{
+    if end <= deadline {
+        Met::Met
+    } else if reached {
+        Met::Missed
+    } else {
+        Met::Unknown
+    }
+}
+
+/// Whether a deadline is met, in picoseconds from when a frame comes, or of a stream with a known offset from its
+/// earliest moment, to the end of its time on the wire.
+pub fn met_by(needs: Needs, delay: Delay, deadline: u128) -> Met
+    ensures { result ≡ met_by needs delay deadline }
 {
     match delay {
-        Delay::Within(_, bound) => {
-            if plus(bound.greatest, need) <= deadline {
-                Met::Met
-            } else {
-                Met::Missed
-            }
+        Delay::Exact(_, bound) => {
+            met_within(plus(bound.greatest, needs.longest), deadline, true)
+        }
+        Delay::Within(_, bound, reached) => {
+            met_within(plus(bound.greatest, needs.longest), deadline, reached)
         }
         Delay::Unbounded(_) | Delay::Lost(_) => Met::Missed,
         Delay::Unsettled(_) | Delay::Unknown(_) => Met::Unknown,

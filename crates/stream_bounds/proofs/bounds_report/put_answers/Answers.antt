@@ -6,7 +6,6 @@ use Rattle.gate_list.specs.Gate.{Plan}
 use Rattle.schedule_check.specs.Apart.{apart_line, class_count, classes_apart}
 use Rattle.schedule_check.specs.Refusals.{map_after}
 use Rattle.stream_bounds.specs.BoundLines.{bound_lines, change_lines, class_lines, finding_in, first_of}
-use Rattle.stream_bounds.specs.Verdicts.{class_answers}
 use Rattle.stream_bounds.specs.declared.faults.Answered.{Answered}
 use Rattle.stream_bounds.specs.declared.faults.Finding.{Finding}
 use Rattle.stream_bounds.proofs.bounds_report.put_answers.Goals as goal
@@ -18,7 +17,7 @@ returns-in_err-put_apart-clause-lines g c =
     let ch = c.args.change.now in
     let entries = ap (λ (p : Plan). p.entries) c.requires.plan in
     let list : c.deref.result.now ≡ classes_apart (class_count (map_after s.map ch.map)) 0 (plan_asked ch).entries = cc in
-    sent_exit _ (apart_line (classes_apart (class_count (map_after s.map ch.map)) 0 (plan_asked ch).entries)) _ p.1 (sent_none _ (change_lines None s ch c.args.streams.now)) refl (rw list at c.in_err-put_apart.ensures)
+    sent_exit _ (apart_line (classes_apart (class_count (map_after s.map ch.map)) 0 (plan_asked ch).entries)) _ p.1 (sent_none _ (change_lines None s ch c.args.streams.now c.args.answers.now)) refl (rw list at c.in_err-put_apart.ensures)
 
 pub returns-in_err-put_classes-clause-lines : goal.returns-in_err-put_classes-clause-lines
 returns-in_err-put_classes-clause-lines g c =
@@ -27,8 +26,8 @@ returns-in_err-put_classes-clause-lines g c =
     let ch = c.args.change.now in
     let entries = ap (λ (p : Plan). p.entries) c.requires.plan in
     let list : c.deref.result.now ≡ classes_apart (class_count (map_after s.map ch.map)) 0 (plan_asked ch).entries = cc in
-    let first = sent_more _ (apart_line (classes_apart (class_count (map_after s.map ch.map)) 0 (plan_asked ch).entries)) _ (sent_none _ (change_lines None s ch c.args.streams.now)) refl (rw list at c.in_ok-put_apart.ensures) in
-    sent_exit _ (class_lines s.port.room (class_answers s ch c.args.streams.now) 8 0) _ p.1 first refl (rw (c.room.ensures.value, c.requires.answers) at c.in_err-put_classes.ensures)
+    let first = sent_more _ (apart_line (classes_apart (class_count (map_after s.map ch.map)) 0 (plan_asked ch).entries)) _ (sent_none _ (change_lines None s ch c.args.streams.now c.args.answers.now)) refl (rw list at c.in_ok-put_apart.ensures) in
+    sent_exit _ (class_lines s.port.room c.args.answers.now 8 0) _ p.1 first refl (rw c.room.ensures.value at c.in_err-put_classes.ensures)
 
 pub returns-in_err-of_streams-clause-lines : goal.returns-in_err-of_streams-clause-lines
 returns-in_err-of_streams-clause-lines g c =
@@ -38,9 +37,9 @@ returns-in_err-of_streams-clause-lines g c =
     let streams = c.args.streams.now in
     let entries = ap (λ (p : Plan). p.entries) c.requires.plan in
     let list : c.deref.result.now ≡ classes_apart (class_count (map_after s.map ch.map)) 0 (plan_asked ch).entries = cc in
-    let first = sent_more _ (apart_line (classes_apart (class_count (map_after s.map ch.map)) 0 (plan_asked ch).entries)) _ (sent_none _ (change_lines None s ch streams)) refl (rw list at c.in_ok-put_apart.ensures) in
-    let second = sent_more _ (class_lines s.port.room (class_answers s ch streams) 8 0) _ first refl (rw (c.room.ensures.value, c.requires.answers) at c.in_ok-put_classes.ensures) in
-    sent_exit _ (bound_lines s ch (class_answers s ch streams) streams) [] p.1 second (sym (append-nil _)) (rw c.requires.answers at c.in_err-of_streams.ensures.lines)
+    let first = sent_more _ (apart_line (classes_apart (class_count (map_after s.map ch.map)) 0 (plan_asked ch).entries)) _ (sent_none _ (change_lines None s ch streams c.args.answers.now)) refl (rw list at c.in_ok-put_apart.ensures) in
+    let second = sent_more _ (class_lines s.port.room c.args.answers.now 8 0) _ first refl (rw c.room.ensures.value at c.in_ok-put_classes.ensures) in
+    sent_exit _ (bound_lines s ch c.args.answers.now streams) [] p.1 second (sym (append-nil _)) c.in_err-of_streams.ensures.lines
 
 pub returns-clause-lines : goal.returns-clause-lines
 returns-clause-lines g c =
@@ -49,13 +48,13 @@ returns-clause-lines g c =
     let streams = c.args.streams.now in
     let entries = ap (λ (p : Plan). p.entries) c.requires.plan in
     let list : c.deref.result.now ≡ classes_apart (class_count (map_after s.map ch.map)) 0 (plan_asked ch).entries = cc in
-    let first = sent_more _ (apart_line (classes_apart (class_count (map_after s.map ch.map)) 0 (plan_asked ch).entries)) _ (sent_none _ (change_lines None s ch streams)) refl (rw list at c.in_ok-put_apart.ensures) in
-    let second = sent_more _ (class_lines s.port.room (class_answers s ch streams) 8 0) _ first refl (rw (c.room.ensures.value, c.requires.answers) at c.in_ok-put_classes.ensures) in
-    sent_all (sent_more _ (bound_lines s ch (class_answers s ch streams) streams) [] second (sym (append-nil _)) (rw c.requires.answers at c.in_ok-of_streams.ensures.lines)) refl
+    let first = sent_more _ (apart_line (classes_apart (class_count (map_after s.map ch.map)) 0 (plan_asked ch).entries)) _ (sent_none _ (change_lines None s ch streams c.args.answers.now)) refl (rw list at c.in_ok-put_apart.ensures) in
+    let second = sent_more _ (class_lines s.port.room c.args.answers.now 8 0) _ first refl (rw c.room.ensures.value at c.in_ok-put_classes.ensures) in
+    sent_all (sent_more _ (bound_lines s ch c.args.answers.now streams) [] second (sym (append-nil _)) c.in_ok-of_streams.ensures.lines) refl
 
 pub returns-clause-answered : goal.returns-clause-answered
 returns-clause-answered g c =
     let whole : Option Finding → Answered = λ f. record { finding = f; judged = true } in
-    let of_streams = rw c.requires.answers at c.in_ok-of_streams.ensures.finding in
-    let of_classes = rw c.requires.answers at c.find_class-of_classes.ensures in
-    ap whole (c.first_of.ensures ∙ (ap (λ (f : Option Finding). first_of f c.find_class-of_classes.result) of_streams ∙ ap (first_of (finding_in c.args.settings.now c.args.change.now (class_answers c.args.settings.now c.args.change.now c.args.streams.now) c.args.streams.now)) of_classes))
+    let of_streams = c.in_ok-of_streams.ensures.finding in
+    let of_classes = c.find_class-of_classes.ensures in
+    ap whole (c.first_of.ensures ∙ (ap (λ (f : Option Finding). first_of f c.find_class-of_classes.result) of_streams ∙ ap (first_of (finding_in c.args.settings.now c.args.change.now c.args.answers.now c.args.streams.now)) of_classes))

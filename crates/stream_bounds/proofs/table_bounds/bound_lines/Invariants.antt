@@ -1,16 +1,16 @@
 use Rattle.std.proofs.Common.{ℕ, List, Result}
 use Rattle.abstract_port.specs.declared.Command.{Command}
-use Rattle.job.proofs.LineLaws.{Goes}
 use Rattle.line_reader.specs.LineReader.{script_left, most_lines}
-use Rattle.stream_bounds.specs.Faults.{schedules_limited}
-use Rattle.stream_bounds.specs.Outcome.{begun_with}
-use Rattle.stream_bounds.proofs.CommandLaws.{bounded}
+use Rattle.stream_bounds.proofs.CommandLaws.{IsWritten}
+use Rattle.stream_bounds.proofs.table_bounds.bound_lines.Given as goal
 use Rattle.tc_reader.specs.declared.fault.TcFault.{TcFault}
 use Rattle.tc_reader.specs.Reader.{IsReader}
-use Rattle.stream_bounds.proofs.table_bounds.bound_lines.Given as goal
 
 abbrev pub invariant-lines : goal.invariant-lines
-invariant-lines g l = (read : List (List ℕ) → Result Command TcFault) → IsReader read → Goes schedules_limited (bounded read l.settings l.streams) (begun_with l.streams) (script_left g.R.Read.remaining l.fn.lines) (g.W.Write.contents l.fn.writer) (g.W.Write.contents l.writer) l.so_far (script_left g.R.Read.remaining l.lines)
+invariant-lines g l =
+    (read : List (List ℕ) → Result Command TcFault) → IsReader read
+    → IsWritten read l.settings l.streams (script_left g.R.Read.remaining l.fn.lines) (g.W.Write.contents l.fn.writer) (g.W.Write.contents l.writer)
+    l.so_far (script_left g.R.Read.remaining l.lines)
 
 abbrev pub decreases-lines : goal.decreases-lines
 decreases-lines g l = most_lines l.lines

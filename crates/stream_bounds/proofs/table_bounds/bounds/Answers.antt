@@ -14,4 +14,4 @@ returns-in_err-schedules g c = λ read is.
     refused read c.args.settings _ _ _ (p.1 ∙ ap Err p.2)
 
 pub returns : goal.returns
-returns g c = λ read is. of_inputs read c.args.settings _ _ _ (g.R.Read.remaining c.args.table) (g.S.Read.remaining c.args.schedules) _ _ c.in_ok-table.ensures.left c.in_ok-schedules.ensures.left (c.bound_table.ensures read is)
+returns g c = λ read is. of_inputs read c.args.settings _ _ (g.R.Read.remaining c.args.table) (g.S.Read.remaining c.args.schedules) _ _ c.in_ok-table.ensures.left c.in_ok-schedules.ensures.left (c.bound_table.ensures read is)
