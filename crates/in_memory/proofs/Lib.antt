@@ -1,1 +1,2 @@
 pub mod PictureLaws
+mod BoundsLaws

@@ -1,13 +1,15 @@
 -- What a call over memory reports of delay bounds.
-use Rattle.std.specs.Prelude.{ℕ, nat_le, ◌&&◌, [], false, Option, Some, None, Result, Ok, Err, if◌then◌else◌}
-use Rattle.job.specs.Outcome.{Outcome}
+use Rattle.std.specs.Prelude.{◌⊎◌, ℕ, List, nat_le, ◌&&◌, [], false, Option, Some, None, Result, Ok, Err, if◌then◌else◌}
+use Rattle.abstract_port.specs.declared.Command.{Command}
 use Rattle.stream_bounds.specs.BoundsEnd.{bounds_value_text, with_port}
 use Rattle.stream_bounds.specs.Faults.{bounds_telling}
-use Rattle.stream_bounds.specs.declared.faults.BoundsInput.{BoundsInput}
 use Rattle.stream_bounds.specs.declared.settings.BoundsSettings.{BoundsSettings}
 use Rattle.stream_bounds.specs.declared.settings.BoundsValue.{BoundsValue}
 use Rattle.stream_bounds.specs.declared.settings.TheConstants.{MAX_FRAMES}
-use Rattle.in_memory.specs.Slices.{Told, told_of}
+use Rattle.stream_bounds.specs.Outcome.{IsOutcome}
+use Rattle.tc_reader.specs.declared.fault.TcFault.{TcFault}
+use Rattle.in_memory.specs.Slices.{Answers, HasNoMemory, Slices, Told, told_of}
+use Rattle.in_memory.specs.declared.jobs.Ran.{Ran}
 use Rattle.in_memory.specs.Values.{settings_at}
 use Rattle.in_memory.specs.declared.values.PortValues.{PortValues}
 
@@ -23,7 +25,10 @@ bounds_settings_at v frames = with_port (settings_at v) (Some None) (frames_at f
 abbrev pub refused_bounds : BoundsValue → Told
 refused_bounds value = record { status = 2; output = []; fault = bounds_value_text value }
 
--- by what values say: what is to be written by them, or the first that is bad
-abbrev pub bounds_told_by : (BoundsSettings → Outcome BoundsInput) → Result BoundsSettings BoundsValue → Told
-bounds_told_by whole (Ok settings) = told_of bounds_telling (whole settings)
-bounds_told_by whole (Err value) = refused_bounds value
+-- What is reported, by what values say: what is to be written by some answers about the classes that are right, where memory is not out; or the
+-- first value that is bad.
+abbrev pub AnswersBounds : (List (List ℕ) → Result Command TcFault) → Result BoundsSettings BoundsValue → (table schedules : List ℕ) → Ran
+    → (old new : Slices) → Type 0
+AnswersBounds read (Ok settings) table schedules ran old new =
+    IsOutcome false read settings table schedules (λ whole. Answers (told_of bounds_telling whole) ran old new) ⊎ HasNoMemory ran old new
+AnswersBounds read (Err value) table schedules ran old new = Answers (refused_bounds value) ran old new

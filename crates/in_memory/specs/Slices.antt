@@ -2,6 +2,8 @@
 use Rattle.std.specs.Prelude.{◌≡◌, ◌<◌, ◌⊎◌, List, ℕ, [], ◌++◌, drop, length, Option, Some, None, Result, Ok, Err}
 use Rattle.job.specs.Outcome.{Outcome}
 use Rattle.job.specs.Report.{Telling}
+use Rattle.job.specs.declared.fault.Fault.{Fault}
+use Rattle.job.specs.declared.fault.Fault.TheVariants as Faults
 use Rattle.script.specs.Texts.{value_text}
 use Rattle.script.specs.declared.settings.BadValue.{BadValue}
 use Rattle.in_memory.specs.declared.jobs.Ran.{Ran}
@@ -72,6 +74,12 @@ pub record HasNoRoom (told : Told) (ran : Ran) (old new : Slices) : Type 0 where
 pub record HasNoMemory (ran : Ran) (old new : Slices) : Type 0 where
   pub ended : ran ≡ record { output = 0; fault = 0; status = 4 }
   pub kept : new ≡ old
+
+-- a run that ended by the fault of a call, and not of an input
+abbrev pub IsFailed : {I T : Type 0} → Result T (Fault I) → Type 0
+IsFailed (Ok x) = ⊥
+IsFailed (Err (Faults.Input fault)) = ⊥
+IsFailed (Err why) = Unit {0}
 
 -- one of the three
 abbrev pub Answers : Told → Ran → Slices → Slices → Type 0

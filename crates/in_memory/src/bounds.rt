@@ -1,10 +1,9 @@
 //! The delays of streams, from a table and schedule commands in memory.
 
-ghost use Rattle.std.specs.Prelude.{◌≡◌, List, ℕ, Result};
+ghost use Rattle.std.specs.Prelude.{◌≡◌, List, ℕ, Ok, Result};
 ghost use Rattle.abstract_port.specs.declared.Command.{Command};
-ghost use Rattle.in_memory.specs.Bounds.{bounds_told_by, frames_at, bounds_settings_at};
-ghost use Rattle.in_memory.specs.Slices.{Answers, slices};
-ghost use Rattle.stream_bounds.specs.Outcome.{outcome_of};
+ghost use Rattle.in_memory.specs.Bounds.{AnswersBounds, frames_at, bounds_settings_at};
+ghost use Rattle.in_memory.specs.Slices.{slices};
 ghost use Rattle.tc_reader.specs.Reader.{IsReader};
 ghost use Rattle.tc_reader.specs.declared.fault.TcFault.{TcFault};
 
@@ -48,6 +47,31 @@ fn bounds_settings_at(values: PortValues, frames: u64) -> Result<BoundsSettings,
     }
 }
 
+/// Answers with these settings.
+fn bounds_with(
+    alloc: Global,
+    settings: BoundsSettings,
+    table: &[u8],
+    schedules: &[u8],
+    output: &mut [u8],
+    fault: &mut [u8],
+) -> Ran
+    ensures { (read : List (List ℕ) → Result Command TcFault) → IsReader read →
+        AnswersBounds read (Ok settings) table.now schedules.now
+        result (slices output.old fault.old) (slices output.new fault.new) }
+{
+    let mut written = Vec::new(alloc);
+    let run = bounds(
+        alloc,
+        table,
+        schedules,
+        &mut written,
+        settings,
+        &mut Unwatched,
+    );
+    end_in_memory(&alloc, run, written.as_slice(), output, fault)
+}
+
 /// Answers how long the frames of a table's streams wait under each schedule, for ever, with these values: what
 /// `stream_bounds::bounds` writes comes into `output`, and the text of a fault into `fault`, as the program writes it
 /// on its standard error. `frames`, 1 to 1,000,000,000, is how many frames of a class are looked at, at most. A
@@ -66,21 +90,13 @@ pub fn bounds_octets(
     fault: &mut [u8],
 ) -> Ran
     ensures { (read : List (List ℕ) → Result Command TcFault) → IsReader read →
-        Answers (bounds_told_by (λ settings. outcome_of read settings table.now schedules.now) (bounds_settings_at values frames)) result (slices output.old fault.old) (slices output.new fault.new) }
+        AnswersBounds read (bounds_settings_at values frames) table.now schedules.now
+        result (slices output.old fault.old) (slices output.new fault.new) }
 {
     let settings = match bounds_settings_at(values, frames) {
         Ok(settings) => settings,
         Err(BoundsValue::Port(value)) => return refuse_value(&alloc, value, output, fault),
         Err(BoundsValue::Frames) => return put_told(2, b"", BAD_FRAMES, output, fault),
     };
-    let mut written = Vec::new(alloc);
-    let run = bounds(
-        alloc,
-        table,
-        schedules,
-        &mut written,
-        settings,
-        &mut Unwatched,
-    );
-    end_in_memory(&alloc, run, written.as_slice(), output, fault)
+    bounds_with(alloc, settings, table, schedules, output, fault)
 }

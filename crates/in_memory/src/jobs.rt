@@ -1,7 +1,7 @@
 //! What is reported of an input comes into slices.
 
 ghost use Rattle.std.specs.Prelude.{◌≡◌, ◌≤◌, Some, [], length};
-ghost use Rattle.in_memory.specs.Slices.{Answers, IsPut, refused, slices, told_of};
+ghost use Rattle.in_memory.specs.Slices.{Answers, HasNoMemory, IsFailed, IsPut, refused, slices, told_of};
 ghost use Rattle.job.specs.Outcome.{Outcome, RunsOut};
 
 use job::{Fault, InputFault, say_fault};
@@ -70,7 +70,10 @@ pub(crate) fn end_in_memory<A: Allocator, I: InputFault>(
     output: &mut [u8],
     fault: &mut [u8],
 ) -> Ran
-    ensures { (whole : Outcome I) → RunsOut run (Some []) (Some written.now) whole → Answers (told_of I.telling whole) result (slices output.old fault.old) (slices output.new fault.new) }
+    ensures told { (whole : Outcome I) → RunsOut run (Some []) (Some written.now) whole →
+        Answers (told_of I.telling whole) result (slices output.old fault.old) (slices output.new fault.new) }
+    ensures failed { IsFailed run →
+        HasNoMemory result (slices output.old fault.old) (slices output.new fault.new) }
 {
     let Err(why) = run else {
         return put_told(0, written, b"", output, fault);

@@ -15,7 +15,7 @@ ghost use Rattle.capture.specs.declared.reader.End.{End};
 ghost use Rattle.frame_table.specs.ByStream.{frames_by_stream};
 ghost use Rattle.frame_table.specs.OfCapture.{frames_of_capture};
 ghost use Rattle.frame_table.specs.Outcome.{frames_of};
-ghost use Rattle.in_memory.specs.Bounds.{bounds_settings_at, bounds_told_by};
+ghost use Rattle.in_memory.specs.Bounds.{AnswersBounds, bounds_settings_at};
 ghost use Rattle.in_memory.specs.Captures.{Replays, outputs, told_by_replay};
 ghost use Rattle.in_memory.specs.Pictures.{DrawsWith, options_at};
 ghost use Rattle.in_memory.specs.Slices.{Answers, slices, told_by, told_of};
@@ -28,7 +28,6 @@ ghost use Rattle.schedule_check.specs.Checked.{whole_check};
 ghost use Rattle.schedule_check.specs.Windows.{IsTeller, Teller};
 ghost use Rattle.script.specs.Outcome.{outcome_of};
 ghost use Rattle.script.specs.Texts.{script_telling};
-ghost use Rattle.stream_bounds.specs.Outcome.{outcome_of as bounds_outcome_of};
 ghost use Rattle.taprio_c.specs.FromC.{is_wanted, moment_of, moment_said, picture_values, port_values, stamp_of};
 ghost use Rattle.tc_reader.specs.Reader.{IsReader};
 ghost use Rattle.tc_reader.specs.declared.fault.TcFault.{TcFault};
@@ -184,7 +183,8 @@ pub extern "C" fn taprio_bounds(
     ran: &mut Ran,
 )
     ensures { (read : List (List ℕ) → Result Command TcFault) → IsReader read →
-        Answers (bounds_told_by (λ settings. bounds_outcome_of read settings table.now schedules.now) (bounds_settings_at (port_values values.now) frames)) ran.new (slices output.old fault.old) (slices output.new fault.new) }
+        AnswersBounds read (bounds_settings_at (port_values values.now) frames) table.now schedules.now
+        ran.new (slices output.old fault.old) (slices output.new fault.new) }
 {
     *ran = bounds_octets(
         alloc,
