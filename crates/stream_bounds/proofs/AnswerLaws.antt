@@ -18,7 +18,7 @@ use Rattle.burst_bounds.specs.declared.Talker.{Talker}
 use Rattle.burst_bounds.specs.declared.Unbound.{Unbound}
 use Rattle.burst_bounds.specs.declared.Unbound.TheVariants.{Overloaded, Stuck, Long, Memory}
 use Rattle.gate_list.specs.Gate.{Plan}
-use Rattle.stream_bounds.specs.Classes.{talker_of}
+use Rattle.stream_bounds.specs.Classes.{most_sdu, talker_of}
 use Rattle.stream_bounds.specs.Verdicts.{AreClassAnswers, ClassAnswer, IsBurst, IsBurstAnswer, burst_answer, burst_limit}
 use Rattle.stream_bounds.specs.declared.settings.BoundsSettings.{BoundsSettings}
 use Rattle.traffic.specs.declared.table.Stream.{Stream}
@@ -36,7 +36,7 @@ told_is plan class limit talkers (Err Memory) least why known = known refl
 -- and so the answer
 pub any_is : (s : BoundsSettings) (c : Change) (streams : List Stream) (class : ℕ) (plan : Plan) (talkers : List Talker) (limit : ℕ)
     (told : Result Bounds Unbound) (answer : ClassAnswer)
-    → plan ≡ plan_asked c → talkers ≡ map (talker_of s.port.rate) streams → limit ≡ burst_limit s
+    → plan ≡ plan_asked c → talkers ≡ map (talker_of s.port.rate (most_sdu s c class)) streams → limit ≡ burst_limit s
     → IfOk told (λ b. AreLeast plan class (longest_need talkers) (curve talkers) b.wait b.most) → IfErr told (IsUnbound plan class talkers limit)
     → told ≢ Err Memory → answer ≡ burst_answer s.port.room streams told → IsBurstAnswer s c streams class answer
 any_is s c streams class plan talkers limit told answer plan_is talkers_are limit_is least why known answered = record {
@@ -44,14 +44,14 @@ any_is s c streams class plan talkers limit told answer plan_is talkers_are limi
   is =
       let now : IsBurst plan class talkers limit told = told_is plan class limit talkers told least why known in
       let at_limit : IsBurst plan class talkers (burst_limit s) told = subst (λ (n : ℕ). IsBurst plan class talkers n told) limit_is now in
-      let of_streams : IsBurst plan class (map (talker_of s.port.rate) streams) (burst_limit s) told = subst (λ (ts : List Talker). IsBurst plan class ts (burst_limit s) told) talkers_are at_limit in
-      subst (λ (p : Plan). IsBurst p class (map (talker_of s.port.rate) streams) (burst_limit s) told) plan_is of_streams;
+      let of_streams : IsBurst plan class (map (talker_of s.port.rate (most_sdu s c class)) streams) (burst_limit s) told = subst (λ (ts : List Talker). IsBurst plan class ts (burst_limit s) told) talkers_are at_limit in
+      subst (λ (p : Plan). IsBurst p class (map (talker_of s.port.rate (most_sdu s c class)) streams) (burst_limit s) told) plan_is of_streams;
   answered = answered;
 }
 
 pub if_any : (s : BoundsSettings) (c : Change) (streams : List Stream) (class : ℕ) (plan : Plan) (talkers : List Talker) (limit : ℕ)
     (told : Result Bounds Unbound) {F : Type 0} (result : Result ClassAnswer F)
-    → plan ≡ plan_asked c → talkers ≡ map (talker_of s.port.rate) streams → limit ≡ burst_limit s
+    → plan ≡ plan_asked c → talkers ≡ map (talker_of s.port.rate (most_sdu s c class)) streams → limit ≡ burst_limit s
     → IfOk told (λ b. AreLeast plan class (longest_need talkers) (curve talkers) b.wait b.most) → IfErr told (IsUnbound plan class talkers limit)
     → IfOk result (λ a. told ≢ Err Memory) → IfOk result (λ a. a ≡ burst_answer s.port.room streams told)
     → IfOk result (λ a. IsBurstAnswer s c streams class a)

@@ -1,13 +1,12 @@
 -- The lines of classes and of streams, one after another.
-use Rattle.std.proofs.Common.{◌≡◌, ◌<◌, ◌≤◌, ℕ, suc, ◌+◌, ◌-◌, List, [], ◌∷◌, ◌++◌, length, drop, get_or, Option, Some, None, Result, refl, sym, ap, ◌∙◌, arith}
+use Rattle.std.proofs.Common.{◌≡◌, ◌<◌, ◌≤◌, ℕ, suc, ◌+◌, ◌-◌, List, [], ◌∷◌, ◌++◌, length, drop, get_or, Option, Some, None, refl, sym, ap, ◌∙◌, arith}
 use Rattle.std.proofs.lemmas.List.{at_drop_all, at_drop_more}
 use Rattle.abstract_port.specs.declared.Change.{Change}
 use Rattle.stream_bounds.specs.BoundLines.{bound_line, bound_lines, class_finding, class_finding_in, class_line, class_lines, finding_in, first_of, stream_finding}
 use Rattle.stream_bounds.specs.Classes.{class_of}
-use Rattle.stream_bounds.specs.Verdicts.{ClassAnswer, answer_at, delay_of, left_after, needs_of}
+use Rattle.stream_bounds.specs.Verdicts.{ClassAnswer, answer_at, left_after, needs_of, next_delay}
 use Rattle.stream_bounds.specs.declared.faults.Finding.{Finding}
 use Rattle.stream_bounds.specs.declared.settings.BoundsSettings.{BoundsSettings}
-use Rattle.abstract_port.specs.declared.Dropped.{Dropped}
 use Rattle.stream_bounds.specs.declared.verdicts.Delay.{Delay}
 use Rattle.stream_bounds.specs.declared.verdicts.Needs.{Needs}
 use Rattle.stream_bounds.specs.declared.verdicts.Verdict.{Verdict}
@@ -64,7 +63,7 @@ module _ (answers : List ClassAnswer) where
 
 module _ (s : BoundsSettings) (c : Change) where
   one_line : (answers : List ClassAnswer) (x : Stream) (xs : List Stream) → bound_lines s c answers (x ∷ xs)
-      ≡ bound_line (needs_of s.port.rate x) x (delay_of answers (class_of s c x)) ++ bound_lines s c (left_after answers (class_of s c x)) xs
+      ≡ bound_line (needs_of s.port.rate x) x (next_delay s c answers x) ++ bound_lines s c (left_after answers (class_of s c x)) xs
   unfolding bound_lines
   one_line answers x xs = refl
 
@@ -73,7 +72,7 @@ module _ (s : BoundsSettings) (c : Change) where
   no_line answers = refl
 
   one_finding : (answers : List ClassAnswer) (x : Stream) (xs : List Stream) → finding_in s c answers (x ∷ xs)
-      ≡ first_of (stream_finding (needs_of s.port.rate x) x (delay_of answers (class_of s c x)) x.deadline) (finding_in s c (left_after answers (class_of s c x)) xs)
+      ≡ first_of (stream_finding (needs_of s.port.rate x) x (next_delay s c answers x) x.deadline) (finding_in s c (left_after answers (class_of s c x)) xs)
   unfolding finding_in
   one_finding answers x xs = refl
 
@@ -84,48 +83,46 @@ module _ (s : BoundsSettings) (c : Change) where
   -- the line of one stream more
   pub stream_more : (answers : List ClassAnswer) (xs : List Stream) (i : ℕ) (d : Stream) → i < length xs
       → bound_lines s c answers (drop i xs)
-      ≡ bound_line (needs_of s.port.rate (get_or xs i d)) (get_or xs i d) (delay_of answers (class_of s c (get_or xs i d))) ++ bound_lines s c (left_after answers (class_of s c (get_or xs i d))) (drop (i + 1) xs)
+      ≡ bound_line (needs_of s.port.rate (get_or xs i d)) (get_or xs i d) (next_delay s c answers (get_or xs i d)) ++ bound_lines s c (left_after answers (class_of s c (get_or xs i d))) (drop (i + 1) xs)
   stream_more answers xs i d less = at_drop_more (bound_lines s c answers) xs i d less ∙ one_line answers (get_or xs i d) (drop (i + 1) xs)
 
   pub stream_end : (answers : List ClassAnswer) (xs : List Stream) (i : ℕ) → length xs ≤ i → bound_lines s c answers (drop i xs) ≡ []
   stream_end answers xs i over = at_drop_all (bound_lines s c answers) xs i over ∙ no_line answers
 
   -- in the words of the code
-  pub told_more : (answers left : List ClassAnswer) (xs : List Stream) (i : ℕ) (d : Stream) (class : Result ℕ Dropped) (needs : Needs) (delay : Delay) → i < length xs
-      → class ≡ class_of s c (get_or xs i d) → needs ≡ needs_of s.port.rate (get_or xs i d) → delay ≡ delay_of answers class → left ≡ left_after answers class
+  pub told_more : (answers left : List ClassAnswer) (xs : List Stream) (i : ℕ) (d : Stream) (needs : Needs) (delay : Delay) → i < length xs
+      → needs ≡ needs_of s.port.rate (get_or xs i d) → delay ≡ next_delay s c answers (get_or xs i d) → left ≡ left_after answers (class_of s c (get_or xs i d))
       → bound_lines s c answers (drop i xs) ≡ bound_line needs (get_or xs i d) delay ++ bound_lines s c left (drop (i + 1) xs)
-  told_more answers left xs i d class needs delay less class_is needs_is delay_is left_is =
+  told_more answers left xs i d needs delay less needs_is delay_is left_is =
       let x : Stream = get_or xs i d in
       let rest : List Stream = drop (i + 1) xs in
       stream_more answers xs i d less
-      ∙ (ap (λ k. bound_line (needs_of s.port.rate x) x (delay_of answers k) ++ bound_lines s c (left_after answers k) rest) (sym class_is)
-      ∙ (ap (λ n. bound_line n x (delay_of answers class) ++ bound_lines s c (left_after answers class) rest) (sym needs_is)
-      ∙ (ap (λ e. bound_line needs x e ++ bound_lines s c (left_after answers class) rest) (sym delay_is)
-      ∙ ap (λ l. bound_line needs x delay ++ bound_lines s c l rest) (sym left_is))))
+      ∙ (ap (λ n. bound_line n x (next_delay s c answers x) ++ bound_lines s c (left_after answers (class_of s c x)) rest) (sym needs_is)
+      ∙ (ap (λ e. bound_line needs x e ++ bound_lines s c (left_after answers (class_of s c x)) rest) (sym delay_is)
+      ∙ ap (λ l. bound_line needs x delay ++ bound_lines s c l rest) (sym left_is)))
 
   -- its finding
   pub finding_more : (answers : List ClassAnswer) (xs : List Stream) (i : ℕ) (d : Stream) (first all : Option Finding) → i < length xs
       → first_of first (finding_in s c answers (drop i xs)) ≡ all
-      → first_of (first_of first (stream_finding (needs_of s.port.rate (get_or xs i d)) (get_or xs i d) (delay_of answers (class_of s c (get_or xs i d))) (get_or xs i d).deadline))
+      → first_of (first_of first (stream_finding (needs_of s.port.rate (get_or xs i d)) (get_or xs i d) (next_delay s c answers (get_or xs i d)) (get_or xs i d).deadline))
       (finding_in s c (left_after answers (class_of s c (get_or xs i d))) (drop (i + 1) xs)) ≡ all
   finding_more answers xs i d first all less so_far =
       first_of_three first _ _
       ∙ (sym (ap (first_of first) (at_drop_more (finding_in s c answers) xs i d less ∙ one_finding answers (get_or xs i d) (drop (i + 1) xs))) ∙ so_far)
 
-  pub found_more : (answers left : List ClassAnswer) (xs : List Stream) (i : ℕ) (d : Stream) (class : Result ℕ Dropped) (needs : Needs) (delay : Delay) (first found now all : Option Finding) → i < length xs
-      → class ≡ class_of s c (get_or xs i d) → needs ≡ needs_of s.port.rate (get_or xs i d) → delay ≡ delay_of answers class → left ≡ left_after answers class
+  pub found_more : (answers left : List ClassAnswer) (xs : List Stream) (i : ℕ) (d : Stream) (needs : Needs) (delay : Delay) (first found now all : Option Finding) → i < length xs
+      → needs ≡ needs_of s.port.rate (get_or xs i d) → delay ≡ next_delay s c answers (get_or xs i d) → left ≡ left_after answers (class_of s c (get_or xs i d))
       → found ≡ stream_finding needs (get_or xs i d) delay (get_or xs i d).deadline → now ≡ first_of first found
       → first_of first (finding_in s c answers (drop i xs)) ≡ all → first_of now (finding_in s c left (drop (i + 1) xs)) ≡ all
-  found_more answers left xs i d class needs delay first found now all less class_is needs_is delay_is left_is found_is now_is so_far =
+  found_more answers left xs i d needs delay first found now all less needs_is delay_is left_is found_is now_is so_far =
       let x : Stream = get_or xs i d in
       let rest : List Stream = drop (i + 1) xs in
       ap (λ f. first_of f (finding_in s c left rest)) now_is
       ∙ (ap (λ f. first_of (first_of first f) (finding_in s c left rest)) found_is
       ∙ (ap (λ l. first_of (first_of first (stream_finding needs x delay x.deadline)) (finding_in s c l rest)) left_is
-      ∙ (ap (λ e. first_of (first_of first (stream_finding needs x e x.deadline)) (finding_in s c (left_after answers class) rest)) delay_is
-      ∙ (ap (λ n. first_of (first_of first (stream_finding n x (delay_of answers class) x.deadline)) (finding_in s c (left_after answers class) rest)) needs_is
-      ∙ (ap (λ k. first_of (first_of first (stream_finding (needs_of s.port.rate x) x (delay_of answers k) x.deadline)) (finding_in s c (left_after answers k) rest)) class_is
-      ∙ finding_more answers xs i d first all less so_far)))))
+      ∙ (ap (λ e. first_of (first_of first (stream_finding needs x e x.deadline)) (finding_in s c (left_after answers (class_of s c x)) rest)) delay_is
+      ∙ (ap (λ n. first_of (first_of first (stream_finding n x (next_delay s c answers x) x.deadline)) (finding_in s c (left_after answers (class_of s c x)) rest)) needs_is
+      ∙ finding_more answers xs i d first all less so_far))))
 
   pub finding_end : (answers : List ClassAnswer) (xs : List Stream) (i : ℕ) (first all : Option Finding) → length xs ≤ i
       → first_of first (finding_in s c answers (drop i xs)) ≡ all → first ≡ all

@@ -12,7 +12,7 @@ use Rattle.schedule_check.specs.Apart.{apart_line, class_count, classes_apart}
 use Rattle.schedule_check.specs.Refusals.{map_after}
 use Rattle.delay_bounds.specs.declared.Bound.{Bound}
 use Rattle.stream_bounds.specs.Classes.{class_of, refusal_of}
-use Rattle.stream_bounds.specs.Verdicts.{AreClassAnswers, ClassAnswer, answer_at, delay_of, left_after, met_by, needs_of, plus}
+use Rattle.stream_bounds.specs.Verdicts.{AreClassAnswers, ClassAnswer, answer_at, left_after, met_by, needs_of, next_delay, plus}
 use Rattle.stream_bounds.specs.declared.faults.Answered.{Answered}
 use Rattle.stream_bounds.specs.declared.faults.Finding.{Finding}
 use Rattle.stream_bounds.specs.declared.faults.Finding.TheVariants as Findings
@@ -139,7 +139,7 @@ bound_line needs x delay = bound_head x.first_id ++ (delay_text needs delay ++ d
 unfoldable pub bound_lines : BoundsSettings → Change → List ClassAnswer → List Stream → List ℕ
 bound_lines s c answers [] = []
 bound_lines s c answers (x ∷ xs) =
-    bound_line (needs_of s.port.rate x) x (delay_of answers (class_of s c x))
+    bound_line (needs_of s.port.rate x) x (next_delay s c answers x)
     ++ bound_lines s c (left_after answers (class_of s c x)) xs
 
 -- 3. Commands
@@ -185,7 +185,7 @@ stream_finding needs x delay (Some deadline) = unmet x.first_id (met_by needs de
 unfoldable pub finding_in : BoundsSettings → Change → List ClassAnswer → List Stream → Option Finding
 finding_in s c answers [] = None
 finding_in s c answers (x ∷ xs) =
-    first_of (stream_finding (needs_of s.port.rate x) x (delay_of answers (class_of s c x)) x.deadline)
+    first_of (stream_finding (needs_of s.port.rate x) x (next_delay s c answers x) x.deadline)
     (finding_in s c (left_after answers (class_of s c x)) xs)
 
 -- a class that loses frames, or never sends some

@@ -1,10 +1,10 @@
 -- Which streams are of which class, by a schedule that a new port has accepted.
-use Rattle.std.specs.Prelude.{◌<◌, ◌≤◌, ℕ, ◌==◌, ◌&&◌, not, Bool, true, false, List, [], ◌∷◌, filter, map, Option, Some, None, IfSome, is_some, unwrap_or, Result, Ok, Err}
+use Rattle.std.specs.Prelude.{◌<◌, ◌≤◌, ℕ, ◌+◌, ◌==◌, ◌&&◌, if◌then◌else◌, max, min, not, Bool, true, false, List, [], ◌∷◌, filter, map, Option, Some, None, is_some, Result, Ok, Err}
 use Rattle.std.specs.List.{list_all, list_any}
 use Rattle.wire_time.specs.Moment.{greatest_moment}
 use Rattle.wire_time.specs.Wire.{occupancy_of}
 use Rattle.wire_time.specs.declared.Frame.{Frame}
-use Rattle.abstract_port.specs.AbstractPort.{AbstractPort, after_command, own_refusal, verdict}
+use Rattle.abstract_port.specs.AbstractPort.{AbstractPort, after_command, limit_of, own_refusal, verdict}
 use Rattle.abstract_port.specs.declared.Change.{Change}
 use Rattle.abstract_port.specs.declared.Command.TheVariants.{Replace}
 use Rattle.abstract_port.specs.declared.Dropped.{Dropped}
@@ -32,14 +32,35 @@ port_of s c = after_command (port_before s) (Replace c)
 abbrev pub frame_of : Stream → ℕ → Frame
 frame_of x len = record { id = x.first_id; priority = x.priority; len = len; tagged = x.tagged }
 
--- the first of two that drops a frame, and else the second
-abbrev pub both_taken : Result ℕ Dropped → Result ℕ Dropped → Result ℕ Dropped
-both_taken (Ok class) other = other
-both_taken (Err why) other = Err why
+-- the octets of its header, with a customer VLAN tag or without
+abbrev pub header : Stream → ℕ
+header x = if x.tagged then 18 else 14
 
--- The class whose queue takes the frames of a stream, where there is room; or why its longest frames are dropped, or else its shortest.
+-- the length of its shortest frame that has a whole header, if one has
+abbrev pub whole_len : Stream → ℕ
+whole_len x = min x.len (max x.shortest (header x))
+
+-- The class whose queue takes some frames of a stream, where there is room; or why each of them is dropped.
 abbrev pub class_of : BoundsSettings → Change → Stream → Result ℕ Dropped
-class_of s c x = both_taken (verdict (port_of s c) (frame_of x x.len)) (verdict (port_of s c) (frame_of x x.shortest))
+class_of s c x = verdict (port_of s c) (frame_of x (whole_len x))
+
+-- why a frame is dropped, if it is
+abbrev pub drop_of : Result ℕ Dropped → Option Dropped
+drop_of (Ok class) = None
+drop_of (Err why) = Some why
+
+-- the first of two
+abbrev pub first_drop : Option Dropped → Option Dropped → Option Dropped
+first_drop (Some why) other = Some why
+first_drop None other = other
+
+-- why the longest frames of a stream are dropped, or else the shortest, if they are
+abbrev pub dropped_of : BoundsSettings → Change → Stream → Option Dropped
+dropped_of s c x = first_drop (drop_of (verdict (port_of s c) (frame_of x x.len))) (drop_of (verdict (port_of s c) (frame_of x x.shortest)))
+
+-- the greatest service data unit that a class takes
+abbrev pub most_sdu : BoundsSettings → Change → ℕ → ℕ
+most_sdu s c class = if limit_of (port_of s c) class == 0 then s.port.mtu else min s.port.mtu (limit_of (port_of s c) class)
 
 -- whether that is this class
 abbrev pub is_class : ℕ → Result ℕ Dropped → Bool
@@ -54,9 +75,13 @@ streams_of s c class streams = filter (λ x. is_class class (class_of s c x)) st
 abbrev pub flow_of : ℕ → Stream → Flow
 flow_of ps x = record { need = occupancy_of ps x.len; period = x.period; offset = earliest x }
 
--- a stream as a talker, of whose frames is known how far apart they come
-abbrev pub talker_of : ℕ → Stream → Talker
-talker_of ps x = record { need = occupancy_of ps x.len; period = x.period; jitter = x.jitter }
+-- the longest frame of a stream, of those up to a service data unit
+abbrev pub len_within : ℕ → Stream → ℕ
+len_within sdu x = min x.len (header x + sdu)
+
+-- A stream as a talker, of whose frames is known how far apart they come; those up to a service data unit are taken.
+unfoldable pub talker_of : (ps sdu : ℕ) → Stream → Talker
+talker_of ps sdu x = record { need = occupancy_of ps (len_within sdu x); period = x.period; jitter = x.jitter }
 
 -- The frames of a stream come at exact moments, and have one length.
 abbrev pub is_exact : Stream → Bool

@@ -28,7 +28,7 @@ use Rattle.burst_bounds.specs.declared.Unbound.{Unbound as BurstUnbound}
 use Rattle.burst_bounds.specs.declared.Unbound.TheVariants as Bursts
 use Rattle.gate_list.specs.Gate.{Plan}
 use Rattle.wire_time.specs.Wire.{occupancy_of}
-use Rattle.stream_bounds.specs.Classes.{are_alike, flow_of, has_inexact, streams_of, talker_of}
+use Rattle.stream_bounds.specs.Classes.{are_alike, class_of, dropped_of, flow_of, has_inexact, most_sdu, streams_of, talker_of}
 use Rattle.stream_bounds.specs.declared.settings.BoundsSettings.{BoundsSettings}
 use Rattle.stream_bounds.specs.declared.verdicts.Needs.{Needs}
 use Rattle.stream_bounds.specs.declared.verdicts.Place.{Place}
@@ -135,7 +135,7 @@ burst_limit s = min s.frames (2 ^ 32 - 1)
 -- The answer about a class with these streams: by the least bounds of their arrival curve.
 pub record IsBurstAnswer (s : BoundsSettings) (c : Change) (streams : List Stream) (class : ℕ) (answer : ClassAnswer) : Type 0 where
   pub told : Result Bounds BurstUnbound
-  pub is : IsBurst (plan_asked c) class (map (talker_of s.port.rate) streams) (burst_limit s) told
+  pub is : IsBurst (plan_asked c) class (map (talker_of s.port.rate (most_sdu s c class)) streams) (burst_limit s) told
   pub answered : answer ≡ burst_answer s.port.room streams told
 
 -- 3. All classes
@@ -188,6 +188,15 @@ delay_in answers class = delay_by class (answer_at answers class).verdict (unwra
 abbrev pub delay_of : List ClassAnswer → Result ℕ Dropped → Delay
 delay_of answers (Ok class) = delay_in answers class
 delay_of answers (Err why) = Delays.Lost why
+
+-- what is told of a stream, of whose frames some may be dropped
+abbrev pub unless_dropped : Option Dropped → Delay → Delay
+unless_dropped None delay = delay
+unless_dropped (Some why) delay = Delays.Lost why
+
+-- the delay of the next stream of a table
+abbrev pub next_delay : BoundsSettings → Change → List ClassAnswer → Stream → Delay
+next_delay s c answers x = unless_dropped (dropped_of s c x) (delay_of answers (class_of s c x))
 
 -- the answers that are left behind it
 abbrev pub left_after : List ClassAnswer → Result ℕ Dropped → List ClassAnswer

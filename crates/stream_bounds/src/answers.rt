@@ -11,7 +11,7 @@ ghost use Rattle.stream_bounds.specs.TableRead.{IsAnswered};
 ghost use Rattle.stream_bounds.specs.Verdicts.{AreClassAnswers, IsBurstAnswer, IsClassAnswer, answer_at, apart_answer, burst_answer, delay_of, exact_answer, left_after, one_told, within_room};
 
 use crate::classes::{
-    are_alike, flows_of, has_inexact, ids_of, ranges_of, streams_of, talkers_of,
+    are_alike, flows_of, has_inexact, ids_of, most_sdu, ranges_of, streams_of, talkers_of,
 };
 use crate::faults::BoundsFault;
 use crate::settings::BoundsSettings;
@@ -188,7 +188,8 @@ fn any_answer(
     ensures answer { IfOk result (λ a. IsBurstAnswer settings.now change.now streams.now class a) }
     ensures memory { IfErr result (λ fault. fault ≡ Faults.Memory) }
 {
-    let talkers = talkers_of(alloc, settings.port.rate(), streams)?;
+    let sdu = most_sdu(settings, change, class);
+    let talkers = talkers_of(alloc, settings.port.rate(), sdu, streams)?;
     let limit = settings.frames.min(u64::from(u32::MAX)) as u32;
     let told = burst_bounds(&alloc, schedule, class, talkers.as_slice(), limit);
     burst_answer(alloc, settings.port.room(), streams, told)

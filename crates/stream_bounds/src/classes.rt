@@ -6,7 +6,7 @@ ghost use Rattle.wire_time.specs.declared.TheConstants.{CLASSES};
 ghost use Rattle.burst_bounds.specs.Talkers.{IsTalker};
 ghost use Rattle.delay_bounds.specs.Claim.{IsFlow};
 ghost use Rattle.job.specs.declared.fault.Fault.TheVariants as Faults;
-ghost use Rattle.stream_bounds.specs.Classes.{are_alike, both_taken, class_of, first_len, flow_of, frame_of, has_inexact, is_class, is_exact, is_free, port_of, streams_of, talker_of, IsPeriodic};
+ghost use Rattle.stream_bounds.specs.Classes.{are_alike, class_of, dropped_of, first_len, flow_of, frame_of, has_inexact, header, is_class, is_exact, is_free, len_within, most_sdu, port_of, streams_of, talker_of, whole_len, IsPeriodic};
 ghost use Rattle.stream_bounds.specs.Verdicts.{late_by, range_of};
 
 use crate::faults::BoundsFault;
@@ -80,15 +80,48 @@ fn class_by(settings: &BoundsSettings, change: &Change, frame: &Frame) -> Result
     Ok(class)
 }
 
-/// The class whose queue takes the frames of a stream, where there is room; or why its longest frames are dropped, or
-/// else its shortest.
+/// The octets of the header of a stream's frames, with a customer VLAN tag or without.
+fn header(stream: &Stream) -> u32
+    ensures { result ≡ header stream.now }
+{
+    if stream.tagged { 18 } else { 14 }
+}
+
+/// The length of its shortest frame that has a whole header, if one has.
+fn whole_len(stream: &Stream) -> u32
+    ensures { result ≡ whole_len stream.now }
+{
+    stream.len.min(stream.shortest.max(header(stream)))
+}
+
+/// The class whose queue takes some frames of a stream, where there is room; or why each of them is dropped.
 pub fn class_of(settings: &BoundsSettings, change: &Change, stream: &Stream) -> Result<u8, Dropped>
     ensures class { result ≡ class_of settings.now change.now stream.now }
     ensures within { IfOk result (λ class. class < CLASSES) }
 {
-    match class_by(settings, change, &frame_of(stream, stream.len)) {
-        Ok(_) => class_by(settings, change, &frame_of(stream, stream.shortest)),
-        Err(why) => Err(why),
+    class_by(settings, change, &frame_of(stream, whole_len(stream)))
+}
+
+/// Why the longest frames of a stream are dropped, or else the shortest, if they are.
+pub fn dropped_of(settings: &BoundsSettings, change: &Change, stream: &Stream) -> Option<Dropped>
+    ensures { result ≡ dropped_of settings.now change.now stream.now }
+{
+    if let Err(why) = class_by(settings, change, &frame_of(stream, stream.len)) {
+        return Some(why);
+    }
+    class_by(settings, change, &frame_of(stream, stream.shortest)).err()
+}
+
+/// The greatest service data unit that a class takes, in octets.
+pub fn most_sdu(settings: &BoundsSettings, change: &Change, class: u8) -> u32
+    requires { class < CLASSES }
+    ensures { result ≡ most_sdu settings.now change.now class }
+{
+    let limit = limit_of(settings, change, class);
+    if limit == 0 {
+        settings.port.mtu()
+    } else {
+        settings.port.mtu().min(limit)
     }
 }
 
@@ -161,33 +194,48 @@ pub fn flows_of<A: Allocator>(
     Ok(flows)
 }
 
-/// A stream as a talker, of whose frames is known how far apart they come.
-fn talker_of(rate: Rate, stream: &Stream) -> Talker
+/// The octets of the longest frame of a stream, of those up to a service data unit.
+fn len_within(sdu: u32, stream: &Stream) -> u32
+    ensures { result ≡ len_within sdu stream.now }
+{
+    let len = stream.len;
+    let most = u64::from(header(stream)) + u64::from(sdu);
+    if most < u64::from(len) {
+        most as u32
+    } else {
+        len
+    }
+}
+
+/// A stream as a talker, of whose frames is known how far apart they come; those up to a service data unit are taken.
+#[tactic(auto, unfolding(crate::specs::Classes::talker_of))]
+fn talker_of(rate: Rate, sdu: u32, stream: &Stream) -> Talker
     requires { IsPeriodic stream.now }
-    ensures talker { result ≡ talker_of rate stream.now }
+    ensures talker { result ≡ talker_of rate sdu stream.now }
     ensures fits { IsTalker result }
 {
     Talker {
-        need: occupancy(rate, stream.len),
+        need: occupancy(rate, len_within(sdu, stream)),
         period: stream.period,
         jitter: stream.jitter,
     }
 }
 
-/// Streams as talkers.
+/// Streams as talkers, of whose frames those up to a service data unit are taken.
 pub fn talkers_of<A: Allocator>(
     alloc: A,
     rate: Rate,
+    sdu: u32,
     streams: &[Stream],
 ) -> Result<Vec<Talker, A>, BoundsFault>
     requires { All IsPeriodic streams.now }
-    ensures talkers { IfOk result (λ talkers. talkers.items ≡ map (talker_of rate) streams.now) }
+    ensures talkers { IfOk result (λ talkers. talkers.items ≡ map (talker_of rate sdu) streams.now) }
     ensures fit { IfOk result (λ talkers. All IsTalker talkers.items) }
     ensures memory { IfErr result (λ fault. fault ≡ Faults.Memory) }
 {
     let mut talkers = Vec::new(alloc);
     for stream in streams {
-        match talkers.push(talker_of(rate, stream)) {
+        match talkers.push(talker_of(rate, sdu, stream)) {
             Ok(()) => {}
             Err(_) => return Err(BoundsFault::Memory),
         }

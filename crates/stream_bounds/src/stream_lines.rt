@@ -3,14 +3,15 @@
 ghost use Rattle.std.specs.Prelude.{◌≡◌, IfOk};
 ghost use Rattle.octet_writer.specs.Writes.{Writes};
 ghost use Rattle.stream_bounds.specs.BoundLines.{bound_head, bound_line, bound_lines, deadline_end, delay_text, finding_in, first_of, lost, met_word, range_text, stream_finding, unmet};
-ghost use Rattle.stream_bounds.specs.Verdicts.{needs_of};
+ghost use Rattle.stream_bounds.specs.Classes.{class_of};
+ghost use Rattle.stream_bounds.specs.Verdicts.{left_after, needs_of, next_delay, unless_dropped};
 
 use crate::answers::Answers;
-use crate::classes::class_of;
+use crate::classes::{class_of, dropped_of};
 use crate::faults::Finding;
 use crate::settings::BoundsSettings;
 use crate::verdicts::{Delay, Met, Needs, met_by, plus};
-use abstract_port::Change;
+use abstract_port::{Change, Dropped};
 use answer_text::{Part, WriteFault, dropped_name, put_parts};
 use delay_bounds::Bound;
 use std::io::Write;
@@ -182,6 +183,30 @@ pub fn first_of(first: Option<Finding>, later: Option<Finding>) -> Option<Findin
     }
 }
 
+/// What is told of a stream, of whose frames some may be dropped.
+fn unless_dropped(dropped: Option<Dropped>, delay: Delay) -> Delay
+    ensures { result ≡ unless_dropped dropped delay }
+{
+    match dropped {
+        Some(why) => Delay::Lost(why),
+        None => delay,
+    }
+}
+
+/// The delay of the next stream of a table; it is told then.
+fn next_delay(
+    settings: &BoundsSettings,
+    change: &Change,
+    answers: &mut Answers,
+    stream: &Stream,
+) -> Delay
+    ensures delay { result ≡ next_delay settings.now change.now answers.old stream.now }
+    ensures left { answers.new ≡ left_after answers.old (class_of settings.now change.now stream.now) }
+{
+    let delay = answers.next_delay(class_of(settings, change, stream));
+    unless_dropped(dropped_of(settings, change, stream), delay)
+}
+
 /// Writes the lines of streams, and answers the first finding among them.
 pub fn put_streams<W: Write>(
     writer: &mut W,
@@ -196,7 +221,7 @@ pub fn put_streams<W: Write>(
     let mut first = None;
     for stream in streams {
         let needs = needs_of(settings.port.rate(), stream);
-        let delay = answers.next_delay(class_of(settings, change, stream));
+        let delay = next_delay(settings, change, answers, stream);
         put_stream(writer, needs, stream, delay)?;
         first = first_of(first, stream_finding(needs, stream, delay));
     }
