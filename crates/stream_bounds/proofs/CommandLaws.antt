@@ -14,11 +14,12 @@ use Rattle.job.specs.declared.fault.Fault.{Fault}
 use Rattle.job.specs.declared.fault.Fault.TheVariants as Faults
 use Rattle.job.proofs.LineLaws.{Goes, behind, faulty, goes_no_further}
 use Rattle.schedule_check.specs.Checked.{is_command}
+use Rattle.script.specs.declared.faults.BadLine.{BadLine}
 use Rattle.script.specs.declared.faults.ScriptFault.{ScriptFault}
 use Rattle.stream_bounds.specs.BoundLines.{command_answered, command_lines, joined}
-use Rattle.stream_bounds.specs.Faults.{limited_behind, schedules_fault, schedules_limited}
+use Rattle.stream_bounds.specs.Faults.{limited_behind, schedules_fault, schedules_limited, table_fault}
 use Rattle.stream_bounds.specs.Outcome.{begun_with, bounds_in, end_fault, found_in_all, outcome_in, outcome_of, outcome_unless, periodic, told_if, with_command}
-use Rattle.stream_bounds.specs.TableRead.{IsEnd, ReadsTable, Tells}
+use Rattle.stream_bounds.specs.TableRead.{IsEnd, Tells}
 use Rattle.stream_bounds.specs.declared.faults.Answered.{Answered}
 use Rattle.stream_bounds.specs.declared.faults.BoundsInput.{BoundsInput}
 use Rattle.stream_bounds.specs.declared.faults.BoundsInput.TheVariants as Inputs
@@ -26,6 +27,8 @@ use Rattle.stream_bounds.specs.declared.faults.Finding.{Finding}
 use Rattle.stream_bounds.specs.declared.settings.BoundsSettings.{BoundsSettings}
 use Rattle.tc_reader.specs.declared.fault.TcFault.{TcFault}
 use Rattle.traffic.specs.Table.{Table, table_by}
+use Rattle.traffic.specs.TableRead.{ReadsTable}
+use Rattle.traffic.specs.declared.frame_count.FrameCount.{FrameCount}
 use Rattle.traffic.specs.declared.table.Stream.{Stream}
 
 -- a prefix of the next part
@@ -117,33 +120,33 @@ module _ (read : List (List ℕ) → Result Command TcFault) (s : BoundsSettings
   bounding_is : (table : Table) (streams : List Stream) (script : Script) → (table.fault ≡ None) × (streams ≡ [] ++ table.streams) → outcome_in read s table script ≡ bounds_in read s streams (begun_with streams) script
   bounding_is table streams script h = ap (λ fault. outcome_unless fault table.streams read s script) h.0 ∙ ap (λ (xs : List Stream). bounds_in read s xs (begun_with xs) script) (sym h.1)
 
-  pub bounded_with : (r : Result (Unit {0}) (Fault BoundsInput)) (table script : Option Script) (streams : List Stream) (old new : Option (List ℕ))
-      → IfSome table (λ lines. ReadsTable {T = Unit {0}} (Ok tt) (table_by periodic lines) [] streams) → IfSome script (λ lines. Runs r old new (bounds_in read s streams (begun_with streams) lines))
+  pub bounded_with : (r : Result (Unit {0}) (Fault BoundsInput)) (counted : FrameCount) (table script : Option Script) (streams : List Stream) (old new : Option (List ℕ))
+      → IfSome table (λ lines. ReadsTable (Ok counted) (table_by periodic lines) [] streams) → IfSome script (λ lines. Runs r old new (bounds_in read s streams (begun_with streams) lines))
       → IfSome table (λ lines. IfSome script (λ others. Runs r old new (outcome_in read s (table_by periodic lines) others)))
-  bounded_with r None script streams old new h w = tt
-  bounded_with r (Some lines) None streams old new h w = tt
-  bounded_with r (Some lines) (Some others) streams old new h w =
+  bounded_with r counted None script streams old new h w = tt
+  bounded_with r counted (Some lines) None streams old new h w = tt
+  bounded_with r counted (Some lines) (Some others) streams old new h w =
       let P : Outcome BoundsInput → Type 0 = λ whole. Runs r old new whole in
       subst P (sym (bounding_is (table_by periodic lines) streams others h)) w
 
   -- the table has a fault, or can't be read: nothing is written
-  unwritten : (fault : Fault BoundsInput) (table : Table) (before streams : List Stream) (script : Script) (old : Option (List ℕ)) → ReadsTable {T = Unit {0}} (Err fault) table before streams
-      → Runs {T = Unit {0}} (Err fault) old old (outcome_in read s table script)
-  unwritten (Faults.Input (Inputs.Table number fault)) table before streams script old h =
-      let P : Outcome BoundsInput → Type 0 = λ whole. Runs {T = Unit {0}} (Err (Faults.Input (Inputs.Table number fault))) old old whole in
+  unwritten : (fault : Fault BadLine) (table : Table) (before streams : List Stream) (script : Script) (old : Option (List ℕ)) → ReadsTable {T = FrameCount} (Err fault) table before streams
+      → Runs {T = Unit {0}} (Err (table_fault fault)) old old (outcome_in read s table script)
+  unwritten (Faults.Input bad) table before streams script old h =
+      let P : Outcome BoundsInput → Type 0 = λ whole. Runs {T = Unit {0}} (Err (Faults.Input (Inputs.Table bad.line bad.fault))) old old whole in
       subst P (sym (ap (λ f. outcome_unless f table.streams read s script) h)) (refl, Appends-nil old)
-  unwritten (Faults.Input (Inputs.Schedules found number fault)) table before streams script old h = absurd h
-  unwritten (Faults.Input (Inputs.Found finding)) table before streams script old h = absurd h
   unwritten Faults.Read table before streams script old h = ((outcome_in read s table script).text, sent_none old (outcome_in read s table script).text)
   unwritten Faults.Write table before streams script old h = absurd h
   unwritten Faults.Memory table before streams script old h = ((outcome_in read s table script).text, sent_none old (outcome_in read s table script).text)
 
-  pub unread : (fault : Fault BoundsInput) (table script : Option Script) (before streams : List Stream) (old : Option (List ℕ))
-      → IfSome table (λ lines. ReadsTable {T = Unit {0}} (Err fault) (table_by periodic lines) before streams)
-      → IfSome table (λ lines. IfSome script (λ others. Runs {T = Unit {0}} (Err fault) old old (outcome_in read s (table_by periodic lines) others)))
-  unread fault None script before streams old h = tt
-  unread fault (Some lines) None before streams old h = tt
-  unread fault (Some lines) (Some others) before streams old h = unwritten fault (table_by periodic lines) before streams others old h
+  pub unread : (fault : Fault BadLine) (r : Fault BoundsInput) (table script : Option Script) (before streams : List Stream) (old : Option (List ℕ))
+      → IfSome table (λ lines. ReadsTable {T = FrameCount} (Err fault) (table_by periodic lines) before streams) → r ≡ table_fault fault
+      → IfSome table (λ lines. IfSome script (λ others. Runs {T = Unit {0}} (Err r) old old (outcome_in read s (table_by periodic lines) others)))
+  unread fault r None script before streams old h e = tt
+  unread fault r (Some lines) None before streams old h e = tt
+  unread fault r (Some lines) (Some others) before streams old h e =
+      let P : Fault BoundsInput → Type 0 = λ x. Runs {T = Unit {0}} (Err x) old old (outcome_in read s (table_by periodic lines) others) in
+      subst P (sym e) (unwritten fault (table_by periodic lines) before streams others old h)
 
   -- out of memory before anything is read
   pub refused : {r : Result (Unit {0}) (Fault BoundsInput)} (table script old : Option (List ℕ)) → r ≡ Err Faults.Memory → IfSome table (λ octets. IfSome script (λ others. Runs r old old (outcome_of read s octets others)))

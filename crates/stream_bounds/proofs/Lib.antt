@@ -2,4 +2,3 @@ mod CommandLaws
 mod LineLaws
 mod PickLaws
 mod RefusalLaws
-mod TableLaws
