@@ -13,89 +13,44 @@ use Rattle.script.specs.declared.faults.ScriptFault.{ScriptFault}
 use Rattle.octet_writer.proofs.Fronts.{Appends-nil, sent_none}
 use Rattle.script.specs.Setup.{Setup}
 use Rattle.job.proofs.LineLaws.{memory_exit}
-use Rattle.frame_table.specs.Words.{BadLine, Command, Outcome, ReadsTable, RunsOut, StreamsInput, Table, TcFault, frames_by, frames_by_stream, frames_in, frames_unless, has_deadlines, has_frame, ids_table, of_script, script_inputs, script_run, stream_in, table_fault, with_ids}
+use Rattle.frame_table.specs.Words.{BadLine, Command, Outcome, RunsOut, StreamsInput, Table, TcFault, frames_by, frames_by_stream, frames_in, frames_unless, has_deadlines, has_frame, ids_table, of_script, script_inputs, script_run, stream_in}
 use Rattle.std.proofs.lemmas.List.{at_drop_all, at_drop_more}
 use Rattle.traffic.specs.declared.faults.StreamsInput.TheVariants as Inputs
-use Rattle.traffic.proofs.TableLaws.{Goes, ended, stopped, wrong_at}
-use Rattle.traffic.specs.Table.{line_judged, table_by}
+use Rattle.traffic.specs.Faults.{table_fault}
+use Rattle.traffic.specs.TableRead.{ReadsTable}
+use Rattle.traffic.specs.declared.frame_count.FrameCount.{FrameCount}
 use Rattle.traffic.specs.declared.table.Stream.{Stream}
-
--- a stream is kept as it is
-abbrev pub itself : Stream → List Stream
-itself x = x ∷ []
-
-all_kept : (xs : List Stream) → flat_map itself xs ≡ xs
-all_kept [] = refl
-all_kept (x ∷ xs) = ap (λ ys. x ∷ ys) (all_kept xs)
-
-module _ (number : ℕ) (line : List ℕ) where
-  -- a line with a fault
-  pub goes_wrong : {T : Type 0} {f : Result T (Fault StreamsInput)} (all : Option Script) (before now : List Stream) (s t : Option Script) (fault : ScriptFault) (old new : List Stream)
-      → Goes with_ids itself all before now s → Advances s (Ok true) number line t → line_judged with_ids (words_of line) ≡ Err fault → f ≡ Err (Faults.Input (Inputs.Table number fault))
-      → IfSome all (λ script. ReadsTable f (table_by with_ids script) old new)
-  goes_wrong None before now s t fault old new g a e h = tt
-  goes_wrong (Some all) before now None t fault old new g a e h = absurd g
-  goes_wrong {T} {f} (Some all) before now (Some script) t fault old new g a e h =
-      let P : Result T (Fault StreamsInput) → Type 0 = λ x. ReadsTable x (table_by with_ids all) old new in
-      subst P (sym h) (wrong_at with_ids itself number line all script before now t fault g a e)
-
-  -- the lines end
-  pub ends : {T : Type 0} {f : Result T (Fault StreamsInput)} (x : T) (all : Option Script) (s t : Option Script) (old new : List Stream)
-      → Goes with_ids itself all old new s → Advances s (Ok false) number line t → f ≡ Ok x → IfSome all (λ script. ReadsTable f (table_by with_ids script) old new)
-  ends x None s t old new g a h = tt
-  ends x (Some all) None t old new g a h = absurd g
-  ends {T} {f} x (Some all) (Some script) t old new g a h =
-      let P : Result T (Fault StreamsInput) → Type 0 = λ y. ReadsTable y (table_by with_ids all) old new in
-      let end = ended with_ids itself number line all script old new t g a in
-      subst P (sym h) (end.0, end.1 ∙ ap (λ xs. old ++ xs) (all_kept (table_by with_ids all).streams))
-
-  -- the lines stop
-  pub stops : {T : Type 0} {f : Result T (Fault StreamsInput)} (fault : LineFault) (all : Option Script) (before now : List Stream) (s t : Option Script) (old new : List Stream)
-      → Goes with_ids itself all before now s → Advances s (Err fault) number line t → f ≡ Err (table_fault fault) → IfSome all (λ script. ReadsTable f (table_by with_ids script) old new)
-  stops fault None before now s t old new g a h = tt
-  stops fault (Some all) before now None t old new g a h = absurd g
-  stops {T} {f} (LineFaults.Limit n limit) (Some all) before now (Some script) t old new g a h =
-      let P : Result T (Fault StreamsInput) → Type 0 = λ x. ReadsTable x (table_by with_ids all) old new in
-      subst P (sym h) (stopped with_ids itself number line all script before now t n limit g a)
-  stops {T} {f} LineFaults.Read (Some all) before now (Some script) t old new g a h =
-      let P : Result T (Fault StreamsInput) → Type 0 = λ x. ReadsTable x (table_by with_ids all) old new in
-      subst P (sym h) tt
-
--- out of memory
-pub memory : {T : Type 0} {f : Result T (Fault StreamsInput)} (all : Option Script) (old new : List Stream) → f ≡ Err Faults.Memory → IfSome all (λ script. ReadsTable f (table_by with_ids script) old new)
-memory None old new e = tt
-memory {T} {f} (Some all) old new e =
-    let P : Result T (Fault StreamsInput) → Type 0 = λ x. ReadsTable x (table_by with_ids all) old new in
-    subst P (sym e) tt
 
 -- ---- what is written with a table
 
 -- by what the table says, where it has no fault
-pub put_with : {T : Type 0} (read : List (List ℕ) → Result Command TcFault) (s : Setup) (r : Result T (Fault StreamsInput)) (old new : Option (List ℕ)) (streams : List Stream) (all : Option Script) (input : Option (List ℕ))
-    → IfSome all (λ script. ReadsTable {T = Unit {0}} (Ok tt) (ids_table script) [] streams) → IfSome input (λ octets. RunsOut r old new (of_script (frames_by (Some streams) read s octets)))
+pub put_with : {T : Type 0} (counted : FrameCount) (read : List (List ℕ) → Result Command TcFault) (s : Setup) (r : Result T (Fault StreamsInput)) (old new : Option (List ℕ)) (streams : List Stream) (all : Option Script) (input : Option (List ℕ))
+    → IfSome all (λ script. ReadsTable (Ok counted) (ids_table script) [] streams) → IfSome input (λ octets. RunsOut r old new (of_script (frames_by (Some streams) read s octets)))
     → IfSome all (λ script. IfSome input (λ octets. RunsOut r old new (frames_in (ids_table script) read s octets)))
-put_with read s r old new streams None input t w = tt
-put_with {T} read s r old new streams (Some script) input t w =
+put_with counted read s r old new streams None input t w = tt
+put_with {T} counted read s r old new streams (Some script) input t w =
     let P : List Stream → Type 0 = λ xs. IfSome input (λ octets. RunsOut r old new (of_script (frames_by (Some xs) read s octets))) in
     let Q : Option (ℕ × ScriptFault) → Type 0 = λ fault. IfSome input (λ octets. RunsOut r old new (frames_unless fault (ids_table script).streams read s octets)) in
     subst Q (sym t.0) (subst P t.1 w)
 
 -- where it has one, or can't be read, nothing is written
-unread_in : (read : List (List ℕ) → Result Command TcFault) (s : Setup) (fault : Fault StreamsInput) (old : Option (List ℕ)) (table : Table) (xs ys : List Stream) (octets : List ℕ)
-    → ReadsTable {T = Unit {0}} (Err fault) table xs ys → RunsOut {T = Unit {0}} (Err fault) old old (frames_in table read s octets)
-unread_in read s (Faults.Input (Inputs.Table number bad)) old table xs ys octets t =
-    let P : Option (ℕ × ScriptFault) → Type 0 = λ f. RunsOut {T = Unit {0}} (Err (Faults.Input (Inputs.Table number bad))) old old (frames_unless f table.streams read s octets) in
+unread_in : (read : List (List ℕ) → Result Command TcFault) (s : Setup) (fault : Fault BadLine) (old : Option (List ℕ)) (table : Table) (xs ys : List Stream) (octets : List ℕ)
+    → ReadsTable {T = FrameCount} (Err fault) table xs ys → RunsOut {T = Unit {0}} (Err (table_fault fault)) old old (frames_in table read s octets)
+unread_in read s (Faults.Input bad) old table xs ys octets t =
+    let P : Option (ℕ × ScriptFault) → Type 0 = λ f. RunsOut {T = Unit {0}} (Err (Faults.Input (Inputs.Table bad.line bad.fault))) old old (frames_unless f table.streams read s octets) in
     subst P (sym t) (refl, Appends-nil old)
-unread_in read s (Faults.Input (Inputs.Script number bad)) old table xs ys octets t = absurd t
 unread_in read s Faults.Read old table xs ys octets t = (_, sent_none old _)
 unread_in read s Faults.Write old table xs ys octets t = absurd t
 unread_in read s Faults.Memory old table xs ys octets t = (_, sent_none old _)
 
-pub unread : (read : List (List ℕ) → Result Command TcFault) (s : Setup) (fault : Fault StreamsInput) (old : Option (List ℕ)) (all : Option Script) (xs ys : List Stream) (input : Option (List ℕ))
-    → IfSome all (λ script. ReadsTable {T = Unit {0}} (Err fault) (ids_table script) xs ys) → IfSome all (λ script. IfSome input (λ octets. RunsOut {T = Unit {0}} (Err fault) old old (frames_in (ids_table script) read s octets)))
-unread read s fault old None xs ys input t = tt
-unread read s fault old (Some script) xs ys None t = tt
-unread read s fault old (Some script) xs ys (Some octets) t = unread_in read s fault old (ids_table script) xs ys octets t
+pub unread : (read : List (List ℕ) → Result Command TcFault) (s : Setup) (fault : Fault BadLine) (r : Fault StreamsInput) (old : Option (List ℕ)) (all : Option Script) (xs ys : List Stream) (input : Option (List ℕ))
+    → IfSome all (λ script. ReadsTable {T = FrameCount} (Err fault) (ids_table script) xs ys) → r ≡ table_fault fault
+    → IfSome all (λ script. IfSome input (λ octets. RunsOut {T = Unit {0}} (Err r) old old (frames_in (ids_table script) read s octets)))
+unread read s fault r old None xs ys input t e = tt
+unread read s fault r old (Some script) xs ys None t e = tt
+unread read s fault r old (Some script) xs ys (Some octets) t e =
+    let P : Fault StreamsInput → Type 0 = λ x. RunsOut {T = Unit {0}} (Err x) old old (frames_in (ids_table script) read s octets) in
+    subst P (sym e) (unread_in read s fault old (ids_table script) xs ys octets t)
 
 -- by the octets of the table
 module _ (read : List (List ℕ) → Result Command TcFault) (s : Setup) (input : Option (List ℕ)) where

@@ -1,5 +1,5 @@
 -- The table of frames with the stream of each, by a table of streams and a script; and what a run of the program on both leaves.
-use Rattle.std.specs.Prelude.{◌≡◌, ⊤, ℕ, List, [], ◌++◌, Option, Some, None, Result, Ok, Err, IfSome}
+use Rattle.std.specs.Prelude.{ℕ, List, [], Option, Some, None, Result, Ok, Err, IfSome}
 use Rattle.abstract_port.specs.declared.Command.{Command}
 use Rattle.job.specs.Outcome.{Outcome, RunsOut}
 use Rattle.job.specs.RunEnd.{IsLetOut, IsRunEnding}
@@ -55,15 +55,6 @@ abbrev pub frames_by_stream : (List (List ℕ) → Result Command TcFault) → S
 frames_by_stream read s table input = frames_in (ids_table (script_of table)) read s input
 
 -- 2. Calls
-
--- at Ok the table's streams come after those that were there; a fault of a line is the table's
-abbrev pub ReadsTable : {T : Type 0} → Result T (Fault StreamsInput) → Table → List Stream → List Stream → Type 0
-ReadsTable (Ok x) table old new = (table.fault ≡ None) × (new ≡ old ++ table.streams)
-ReadsTable (Err (Faults.Input (Inputs.Table number fault))) table old new = table.fault ≡ Some (number, fault)
-ReadsTable (Err (Faults.Input (Inputs.Script number fault))) table old new = ⊥
-ReadsTable (Err Faults.Read) table old new = ⊤
-ReadsTable (Err Faults.Write) table old new = ⊥
-ReadsTable (Err Faults.Memory) table old new = ⊤
 
 -- The end of a run on a table of streams and a script: what the writer got, with what no write let out, is what is to be written for the octets of both,
 -- or after a fault of a call's a prefix of it.

@@ -23,7 +23,7 @@ pub use Rattle.script.specs.Requests.{Asks, NoCommand, Request, request_of, said
 pub use Rattle.script.specs.Responses.{events_of, responses_to}
 pub use Rattle.script.specs.declared.faults.BadLine.{BadLine}
 pub use Rattle.script.specs.declared.faults.ScriptFault.{ScriptFault}
-pub use Rattle.frame_table.specs.ByStream.{IsByStreamEnding, ReadsTable, frames_by_stream, frames_in, frames_unless, of_script, script_input, script_inputs, script_run}
+pub use Rattle.frame_table.specs.ByStream.{IsByStreamEnding, frames_by_stream, frames_in, frames_unless, of_script, script_input, script_inputs, script_run}
 pub use Rattle.capture.specs.CaptureReader.{left}
 pub use Rattle.capture.specs.Record.{entry, frame_of}
 pub use Rattle.capture.specs.Records.{Entry}
@@ -42,13 +42,13 @@ pub use Rattle.frame_table.specs.Walk.{Carries, GoesOn, Place, Stands, TakesReco
 pub use Rattle.frame_table.specs.Outcome.{IsAfter, ending_text, frames_by, frames_of, rows_told, table_after, table_by, table_from, table_unless, whole_frames, with_head}
 pub use Rattle.frame_table.specs.RowText.{head_line, row_line, rows_text}
 pub use Rattle.frame_table.specs.Deadline.{has_deadlines}
-pub use Rattle.frame_table.specs.StreamOf.{has_frame, ids_table, stream_in, with_ids}
+pub use Rattle.frame_table.specs.StreamOf.{has_frame, ids_table, stream_in}
 pub use Rattle.frame_table.specs.Rows.{arrival_at, arrives, departs, left_row, left_rows, rows_at, rows_of, sent_row, table_of}
 unfoldable pub use Rattle.frame_table.specs.Rows.{left_from}
 pub use Rattle.frame_table.specs.Waits.{comes, first_came, goes, none_wait, waiting_in}
 pub use Rattle.frame_table.specs.declared.rows.Arrival.{Arrival}
 pub use Rattle.frame_table.specs.declared.rows.FrameRow.{FrameRow}
-pub use Rattle.traffic.specs.Faults.{streams_telling, table_fault}
-pub use Rattle.traffic.specs.Table.{Table, line_judged}
+pub use Rattle.traffic.specs.Faults.{streams_telling}
+pub use Rattle.traffic.specs.Table.{Table}
 pub use Rattle.traffic.specs.declared.faults.StreamsInput.{StreamsInput}
 pub use Rattle.traffic.specs.declared.table.Stream.{Stream}

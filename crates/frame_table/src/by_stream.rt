@@ -3,14 +3,14 @@
 ghost use Rattle.std.specs.Prelude.{◌≡◌, ℕ, IfSome, List, Result};
 ghost use Rattle.frame_table.specs.Words.{Command, IsReader, RunsOut, TcFault, frames_by, frames_by_stream, frames_in, ids_table, of_script, script_input, script_left, script_run};
 
-use crate::streams::{Streams, read_streams};
+use crate::streams::Streams;
 use crate::table_run::run_with;
 use job::Fault;
 use line_reader::LineReader;
 use script::{BadLine, RunFault, Settings, Watch};
 use std::alloc::Allocator;
 use std::io::{Read, Write};
-use traffic::{StreamsFault, StreamsInput};
+use traffic::{StreamsFault, StreamsInput, read_table, table_fault};
 
 /// The fault of a line of the script, where there are two inputs.
 fn script_input(bad: BadLine) -> StreamsInput
@@ -62,9 +62,9 @@ fn put_by_stream<A: Allocator, B: Allocator, R: Read + Drop, S: Read + Drop, W: 
         RunsOut result (W.contents writer.old) (W.contents writer.new) (frames_in (ids_table streams) read settings input))) }
 {
     let mut streams = Streams::new(alloc);
-    match read_streams(table, &mut streams, watch) {
-        Ok(()) => put_with(alloc, &Some(streams), reader, writer, settings, watch),
-        Err(fault) => Err(fault),
+    match read_table(table, &mut streams, watch) {
+        Ok(_) => put_with(alloc, &Some(streams), reader, writer, settings, watch),
+        Err(fault) => Err(table_fault(fault)),
     }
 }
 

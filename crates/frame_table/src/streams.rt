@@ -1,21 +1,13 @@
 //! The streams of a table, and which of them a frame is of.
 
-ghost use Rattle.std.specs.Prelude.{◌≡◌, ◌++◌, ◌∷◌, [], IfErr, IfSome, OnOk};
-ghost use Rattle.job.specs.declared.fault.Fault.TheVariants as Faults;
-ghost use Rattle.line_reader.specs.LineReader.{script_left};
-ghost use Rattle.words.specs.Words.{words_of};
-ghost use Rattle.traffic.specs.Faults.{table_fault};
-ghost use Rattle.traffic.specs.Table.{line_judged};
-ghost use Rattle.frame_table.specs.ByStream.{ReadsTable};
+ghost use Rattle.std.specs.Prelude.{◌≡◌, ◌++◌, ◌∷◌, [], OnOk};
 ghost use Rattle.frame_table.specs.Deadline.{has_deadlines};
-ghost use Rattle.frame_table.specs.StreamOf.{has_frame, ids_table, stream_by, stream_in, with_ids};
+ghost use Rattle.frame_table.specs.StreamOf.{has_frame, stream_by, stream_in, with_ids};
 
-use line_reader::{LineFault, LineReader};
-use script::{ScriptFault, Watch, limit_fault};
-use std::alloc::Allocator;
-use std::io::Read;
+use script::{ScriptFault, Watch};
+use std::alloc::{AllocError, Allocator};
 use std::marker::Model;
-use traffic::{Stream, StreamsFault, StreamsInput, has_ids, read_stream_line, tell_stream};
+use traffic::{Stream, StreamTaker, Untaken, has_ids, tell_stream};
 
 /// The streams of a table, in its order.
 #[derive(Drop)]
@@ -71,17 +63,12 @@ impl<A: Allocator> Streams<A> {
     }
 
     /// Keeps a stream after the others.
-    fn keep(&mut self, stream: Stream) -> Result<(), StreamsFault>
-        ensures kept { OnOk result (self.new ≡ self.old ++ stream ∷ []) }
-        ensures memory { IfErr result (λ fault. fault ≡ Faults.Memory) }
+    fn keep(&mut self, stream: Stream) -> Result<(), AllocError>
+        ensures { OnOk result (self.new ≡ self.old ++ stream ∷ []) }
     {
-        match self.list.push(stream) {
-            Ok(()) => {
-                self.timed |= stream.deadline.is_some();
-                Ok(())
-            }
-            Err(_) => Err(StreamsFault::Memory),
-        }
+        self.list.push(stream)?;
+        self.timed |= stream.deadline.is_some();
+        Ok(())
     }
 
     /// The stream that a frame of this ID is of.
@@ -119,60 +106,25 @@ fn with_ids(stream: Stream) -> Result<Stream, ScriptFault>
     Ok(stream)
 }
 
-/// What a line of a table says, or None where it is skipped.
-fn read_with_ids(line: &[u8]) -> Result<Option<Stream>, ScriptFault>
-    ensures { result ≡ line_judged with_ids (words_of line.now) }
-{
-    match read_stream_line(line) {
-        Ok(None) => Ok(None),
-        Ok(Some(stream)) => match with_ids(stream) {
-            Ok(stream) => Ok(Some(stream)),
-            Err(fault) => Err(fault),
-        },
-        Err(fault) => Err(fault),
-    }
-}
+impl<A: Allocator> StreamTaker for Streams<A> {
+    ghost judge = { λ streams. with_ids };
 
-/// The fault of a table whose line can't be read.
-fn table_fault(fault: LineFault) -> StreamsFault
-    ensures { result ≡ table_fault fault }
-{
-    match fault {
-        LineFault::Limit(line, limit) => StreamsFault::Input(StreamsInput::Table(
-            line,
-            limit_fault(limit),
-        )),
-        LineFault::Read => StreamsFault::Read,
-    }
-}
+    ghost taken = { λ streams. streams };
 
-/// Reads the lines of a table that are to come, after the streams that are read. Who watches is called for each stream.
-pub(crate) fn read_streams<A: Allocator, B: Allocator, R: Read + Drop, H: Watch>(
-    lines: &mut LineReader<R, A>,
-    streams: &mut Streams<B>,
-    watch: &mut H,
-) -> Result<(), StreamsFault>
-    ensures { IfSome (script_left R.remaining lines.old) (λ script. ReadsTable result (ids_table script) streams.old streams.new) }
-{
-    'lines: loop {
-        let more = match lines.advance() {
-            Ok(more) => more,
-            Err(fault) => return Err(table_fault(fault)),
+    fn take<H: Watch>(
+        &mut self,
+        number: u32,
+        stream: Stream,
+        watch: &mut H,
+    ) -> Result<Stream, Untaken> {
+        let stream = match with_ids(stream) {
+            Ok(stream) => stream,
+            Err(fault) => return Err(Untaken::Fault(fault)),
         };
-        if !more {
-            break;
-        }
-        match read_with_ids(lines.line()) {
-            Ok(None) => {}
-            Ok(Some(stream)) => {
-                tell_stream(lines.line_number(), &stream, watch);
-                streams.keep(stream)?;
-            }
-            Err(fault) => {
-                watch.line_failed(lines.line());
-                return Err(StreamsFault::Input(StreamsInput::Table(lines.line_number(), fault)));
-            }
+        tell_stream(number, &stream, watch);
+        match self.keep(stream) {
+            Ok(()) => Ok(stream),
+            Err(_) => Err(Untaken::Memory),
         }
     }
-    Ok(())
 }

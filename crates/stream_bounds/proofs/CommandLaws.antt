@@ -17,11 +17,12 @@ use Rattle.job.specs.declared.fault.Fault.{Fault}
 use Rattle.job.specs.declared.fault.Fault.TheVariants as Faults
 use Rattle.job.proofs.LineLaws.{Goes, behind, begun, faulty, goes_kept, goes_no_further, goes_on, goes_past, goes_wrong}
 use Rattle.schedule_check.specs.Checked.{is_command}
+use Rattle.script.specs.declared.faults.BadLine.{BadLine}
 use Rattle.script.specs.declared.faults.ScriptFault.{ScriptFault}
 use Rattle.stream_bounds.specs.BoundLines.{AreCommandAnswers, command_answered, command_lines, joined}
-use Rattle.stream_bounds.specs.Faults.{limited_behind, schedules_fault, schedules_limited}
+use Rattle.stream_bounds.specs.Faults.{limited_behind, schedules_fault, schedules_limited, table_fault}
 use Rattle.stream_bounds.specs.Outcome.{AreAnswers, AreLineAnswers, AreTableAnswers, IsBounded, IsOutcome, begun_with, behind_lines, bounds_in, end_fault, found_in_all, outcome_in, outcome_unless, periodic, told_if, with_answers, with_command}
-use Rattle.stream_bounds.specs.TableRead.{IsEnd, ReadsTable, RunsLines, Tells, TellsLine, may_stop}
+use Rattle.stream_bounds.specs.TableRead.{IsEnd, RunsLines, Tells, TellsLine, may_stop}
 use Rattle.stream_bounds.specs.Verdicts.{ClassAnswer}
 use Rattle.stream_bounds.specs.declared.faults.Answered.{Answered}
 use Rattle.stream_bounds.specs.declared.faults.BoundsInput.{BoundsInput}
@@ -30,6 +31,8 @@ use Rattle.stream_bounds.specs.declared.faults.Finding.{Finding}
 use Rattle.stream_bounds.specs.declared.settings.BoundsSettings.{BoundsSettings}
 use Rattle.tc_reader.specs.declared.fault.TcFault.{TcFault}
 use Rattle.traffic.specs.Table.{Table, table_by}
+use Rattle.traffic.specs.TableRead.{ReadsTable}
+use Rattle.traffic.specs.declared.frame_count.FrameCount.{FrameCount}
 use Rattle.traffic.specs.declared.table.Stream.{Stream}
 
 -- answers about all classes, for one line after another
@@ -262,12 +265,12 @@ module _ (read : List (List ℕ) → Result Command TcFault) (s : BoundsSettings
 
 module _ (read : List (List ℕ) → Result Command TcFault) (s : BoundsSettings) where
   -- the table is read
-  pub bounded_with : (r : Result (Unit {0}) (Fault BoundsInput)) (table script : Option Script) (streams : List Stream) (old new : Option (List ℕ))
-      → IfSome table (λ lines. ReadsTable {T = Unit {0}} (Ok tt) (table_by periodic lines) [] streams) → IfSome script (λ lines. RunsLines r read s streams lines old new)
+  pub bounded_with : (r : Result (Unit {0}) (Fault BoundsInput)) (counted : FrameCount) (table script : Option Script) (streams : List Stream) (old new : Option (List ℕ))
+      → IfSome table (λ lines. ReadsTable (Ok counted) (table_by periodic lines) [] streams) → IfSome script (λ lines. RunsLines r read s streams lines old new)
       → IfSome table (λ lines. IfSome script (λ others. IsBounded (may_stop r) read s (table_by periodic lines) others (Runs r old new)))
-  bounded_with r None script streams old new h w = tt
-  bounded_with r (Some lines) None streams old new h w = tt
-  bounded_with r (Some lines) (Some others) streams old new h w =
+  bounded_with r counted None script streams old new h w = tt
+  bounded_with r counted (Some lines) None streams old new h w = tt
+  bounded_with r counted (Some lines) (Some others) streams old new h w =
       let table = table_by periodic lines in
       let same : streams ≡ table.streams = h.1 in
       let w : RunsLines r read s table.streams others old new = subst (λ (xs : List Stream). RunsLines r read s xs others old new) same w in
@@ -290,19 +293,17 @@ module _ (read : List (List ℕ) → Result Command TcFault) (s : BoundsSettings
   untold table script = unanswered table.fault table.streams script
 
   -- the table has a fault, or can't be read: nothing is written
-  unwritten : (fault : Fault BoundsInput) (table : Table) (before streams : List Stream) (script : Script) (old : Option (List ℕ)) → ReadsTable {T = Unit {0}} (Err fault) table before streams
-      → IsBounded (may_stop {T = Unit {0}} (Err fault)) read s table script (Runs {T = Unit {0}} (Err fault) old old)
-  unwritten (Faults.Input (Inputs.Table number fault)) table before streams script old h = record {
+  unwritten : (fault : Fault BadLine) (table : Table) (before streams : List Stream) (script : Script) (old : Option (List ℕ)) → ReadsTable {T = FrameCount} (Err fault) table before streams
+      → IsBounded (may_stop {T = Unit {0}} (Err (table_fault fault))) read s table script (Runs {T = Unit {0}} (Err (table_fault fault)) old old)
+  unwritten (Faults.Input bad) table before streams script old h = record {
     answers = [];
     right =
         let P : Option (ℕ × ScriptFault) → Type 0 = λ f. AreTableAnswers f false read s table.streams [] script in
         subst P (sym h) refl;
     is =
-        let P : Option (ℕ × ScriptFault) → Type 0 = λ f. Runs {T = Unit {0}} (Err (Faults.Input (Inputs.Table number fault))) old old (outcome_unless f table.streams read s [] script) in
+        let P : Option (ℕ × ScriptFault) → Type 0 = λ f. Runs {T = Unit {0}} (Err (Faults.Input (Inputs.Table bad.line bad.fault))) old old (outcome_unless f table.streams read s [] script) in
         subst P (sym h) (refl, Appends-nil old);
   }
-  unwritten (Faults.Input (Inputs.Schedules found number fault)) table before streams script old h = absurd h
-  unwritten (Faults.Input (Inputs.Found finding)) table before streams script old h = absurd h
   unwritten Faults.Read table before streams script old h = record {
     answers = [];
     right = untold table script;
@@ -315,12 +316,14 @@ module _ (read : List (List ℕ) → Result Command TcFault) (s : BoundsSettings
     is = ((outcome_in read s table [] script).text, sent_none old (outcome_in read s table [] script).text);
   }
 
-  pub unread : (fault : Fault BoundsInput) (table script : Option Script) (before streams : List Stream) (old : Option (List ℕ))
-      → IfSome table (λ lines. ReadsTable {T = Unit {0}} (Err fault) (table_by periodic lines) before streams)
-      → IfSome table (λ lines. IfSome script (λ others. IsBounded (may_stop {T = Unit {0}} (Err fault)) read s (table_by periodic lines) others (Runs {T = Unit {0}} (Err fault) old old)))
-  unread fault None script before streams old h = tt
-  unread fault (Some lines) None before streams old h = tt
-  unread fault (Some lines) (Some others) before streams old h = unwritten fault (table_by periodic lines) before streams others old h
+  pub unread : (fault : Fault BadLine) (r : Fault BoundsInput) (table script : Option Script) (before streams : List Stream) (old : Option (List ℕ))
+      → IfSome table (λ lines. ReadsTable {T = FrameCount} (Err fault) (table_by periodic lines) before streams) → r ≡ table_fault fault
+      → IfSome table (λ lines. IfSome script (λ others. IsBounded (may_stop {T = Unit {0}} (Err r)) read s (table_by periodic lines) others (Runs {T = Unit {0}} (Err r) old old)))
+  unread fault r None script before streams old h e = tt
+  unread fault r (Some lines) None before streams old h e = tt
+  unread fault r (Some lines) (Some others) before streams old h e =
+      let P : Fault BoundsInput → Type 0 = λ x. IsBounded (may_stop {T = Unit {0}} (Err x)) read s (table_by periodic lines) others (Runs {T = Unit {0}} (Err x) old old) in
+      subst P (sym e) (unwritten fault (table_by periodic lines) before streams others old h)
 
   -- out of memory before anything is read
   pub refused : {r : Result (Unit {0}) (Fault BoundsInput)} (table script old : Option (List ℕ)) → r ≡ Err Faults.Memory

@@ -2,5 +2,4 @@ mod CommandLaws
 mod LineLaws
 mod PickLaws
 mod RefusalLaws
-mod TableLaws
 mod AnswerLaws

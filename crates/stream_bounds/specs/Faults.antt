@@ -6,20 +6,18 @@ use Rattle.line_reader.specs.declared.lines.LineFault.{LineFault}
 use Rattle.job.specs.Lines.{fault_of_line}
 use Rattle.job.specs.Report.{Telling}
 use Rattle.job.specs.declared.fault.Fault.{Fault}
+use Rattle.job.specs.declared.fault.Fault.TheVariants as Faults
 use Rattle.job.specs.declared.kind.FaultKind.{FaultKind}
 use Rattle.job.specs.declared.kind.FaultKind.TheVariants as Kinds
 use Rattle.script.specs.Kinds.{line_kind, table_kind}
 use Rattle.script.specs.Outcome.{limit_fault}
 use Rattle.script.specs.Texts.{line_text}
+use Rattle.script.specs.declared.faults.BadLine.{BadLine}
 use Rattle.script.specs.declared.faults.ScriptFault.{ScriptFault}
 use Rattle.stream_bounds.specs.declared.faults.BoundsInput.{BoundsInput}
 use Rattle.stream_bounds.specs.declared.faults.BoundsInput.TheVariants as Inputs
 use Rattle.stream_bounds.specs.declared.faults.Finding.{Finding}
 use Rattle.stream_bounds.specs.declared.faults.Finding.TheVariants as Findings
-
--- the line of the table of this number passes a limit
-abbrev pub table_limited : ℕ → Limit → BoundsInput
-table_limited line limit = Inputs.Table line (limit_fault limit)
 
 -- the line of the schedules of this number passes a limit, where a strict run has found something before
 abbrev pub limited_behind : Option Finding → ℕ → Limit → BoundsInput
@@ -33,9 +31,12 @@ schedules_limited line limit = limited_behind None line limit
 abbrev pub schedules_fault : Option Finding → LineFault → Fault BoundsInput
 schedules_fault found fault = fault_of_line (limited_behind found) fault
 
--- the fault of a table whose line can not be read
-abbrev pub table_fault : LineFault → Fault BoundsInput
-table_fault fault = fault_of_line table_limited fault
+-- a fault that reading a table has, as one of the job
+abbrev pub table_fault : Fault BadLine → Fault BoundsInput
+table_fault (Faults.Input bad) = Faults.Input (Inputs.Table bad.line bad.fault)
+table_fault Faults.Read = Faults.Read
+table_fault Faults.Write = Faults.Write
+table_fault Faults.Memory = Faults.Memory
 
 -- a finding about a line or a stream
 abbrev pub finding_text : List ℕ → ℕ → List ℕ → List ℕ

@@ -1,5 +1,5 @@
--- What reading a table, and answering about a command, leave.
-use Rattle.std.specs.Prelude.{◌≡◌, ◌⊎◌, ⊤, ℕ, Bool, true, false, List, ◌++◌, Option, Some, None, Result, Ok, Err}
+-- What answering about a command leaves.
+use Rattle.std.specs.Prelude.{◌≡◌, ◌⊎◌, ℕ, Bool, true, false, List, Option, Some, None, Result, Ok, Err}
 use Rattle.std.specs.Io.KnownBytes.{Appends, Keeps}
 use Rattle.octet_writer.specs.Writes.{AppendsFront, FallsShort}
 use Rattle.abstract_port.specs.declared.Change.{Change}
@@ -21,18 +21,6 @@ use Rattle.job.specs.declared.fault.Fault.{Fault}
 use Rattle.job.specs.declared.fault.Fault.TheVariants as Faults
 use Rattle.stream_bounds.specs.declared.faults.BoundsInput.{BoundsInput}
 use Rattle.stream_bounds.specs.declared.faults.BoundsInput.TheVariants as Inputs
-use Rattle.traffic.specs.Table.{Table}
-use Rattle.traffic.specs.declared.table.Stream.{Stream}
-
--- at Ok the table's streams come after those that were there; a fault of a line is the table's
-abbrev pub ReadsTable : {T : Type 0} → Result T (Fault BoundsInput) → Table → List Stream → List Stream → Type 0
-ReadsTable (Ok x) table old new = (table.fault ≡ None) × (new ≡ old ++ table.streams)
-ReadsTable (Err (Faults.Input (Inputs.Table number fault))) table old new = table.fault ≡ Some (number, fault)
-ReadsTable (Err (Faults.Input (Inputs.Schedules found number fault))) table old new = ⊥
-ReadsTable (Err (Faults.Input (Inputs.Found finding))) table old new = ⊥
-ReadsTable (Err Faults.Read) table old new = ⊤
-ReadsTable (Err Faults.Write) table old new = ⊥
-ReadsTable (Err Faults.Memory) table old new = ⊤
 
 -- At Ok the whole text is written, and this was answered; after a failed write, or out of memory, a prefix of the text is.
 abbrev pub Tells : Result Answered (Fault BoundsInput) → Option (List ℕ) → Option (List ℕ) → List ℕ → Answered → Type 0

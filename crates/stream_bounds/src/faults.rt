@@ -7,7 +7,7 @@ ghost use Rattle.stream_bounds.specs.Faults.{bounds_kind, bounds_telling, findin
 use answer_text::{Part, WriteFault, put, put_parts};
 use job::{Fault, FaultKind, InputFault, LineInput};
 use line_reader::{Limit, LineFault};
-use script::{ScriptFault, limit_fault, put_line_fault};
+use script::{RunFault, ScriptFault, limit_fault, put_line_fault};
 use std::io::Write;
 use thiserror::Error;
 
@@ -78,15 +78,15 @@ impl Finding {
     }
 }
 
-/// The fault of a table whose line can't be read.
-pub fn table_fault(fault: LineFault) -> BoundsFault
+/// A fault that reading a table has, as one of the job.
+pub fn table_fault(fault: RunFault) -> BoundsFault
     ensures { result ≡ table_fault fault }
 {
     match fault {
-        LineFault::Limit(line, limit) => {
-            Fault::Input(BoundsInput::Table(line, limit_fault(limit)))
-        }
-        LineFault::Read => Fault::Read,
+        Fault::Input(bad) => Fault::Input(BoundsInput::Table(bad.line, bad.fault)),
+        Fault::Read => Fault::Read,
+        Fault::Write => Fault::Write,
+        Fault::Memory => Fault::Memory,
     }
 }
 

@@ -15,16 +15,16 @@ ghost use Rattle.tc_reader.specs.declared.fault.TcFault.{TcFault};
 ghost use Rattle.traffic.specs.Table.{table_by};
 
 use crate::bounds_report::put_line;
-use crate::faults::{Answered, BoundsFault, BoundsInput, Finding, schedules_fault};
+use crate::faults::{Answered, BoundsFault, BoundsInput, Finding, schedules_fault, table_fault};
 use crate::settings::BoundsSettings;
 use crate::stream_lines::first_of;
-use crate::table::read_streams;
+use crate::table::PeriodicStreams;
 use line_reader::LineReader;
 use schedule_check::is_command;
 use script::{ScriptFault, Watch};
 use std::alloc::{Allocator, Global};
 use std::io::{Read, Write};
-use traffic::Stream;
+use traffic::{Stream, read_table};
 
 /// A fault of the line that was read last, where this was found before.
 fn fault_here<A: Allocator, R: Read + Drop>(
@@ -146,9 +146,9 @@ fn bound_table<A: Allocator, R: Read + Drop, S: Read + Drop, W: Write, H: Watch>
         IsBounded (may_stop result) read settings.now (table_by periodic table) script
         (Runs result (W.contents writer.old) (W.contents writer.new)))) }
 {
-    let mut streams = Vec::new(alloc);
-    match read_streams(table, &mut streams, watch) {
-        Ok(()) => bound_lines(
+    let mut streams = PeriodicStreams::new(alloc);
+    match read_table(table, &mut streams, watch) {
+        Ok(_) => bound_lines(
             alloc,
             schedules,
             writer,
@@ -156,7 +156,7 @@ fn bound_table<A: Allocator, R: Read + Drop, S: Read + Drop, W: Write, H: Watch>
             streams.as_slice(),
             watch,
         ),
-        Err(fault) => Err(fault),
+        Err(fault) => Err(table_fault(fault)),
     }
 }
 

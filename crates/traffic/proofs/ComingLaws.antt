@@ -1,7 +1,7 @@
 -- The frames of a table have numbers in their ranges.
 use Rattle.std.proofs.Common.{◌≡◌, ℕ, zero, suc, ◌+◌, ◌-◌, ◌*◌, ◌^◌, ◌<◌, ◌≤◌, Bool, true, false, eqb, leb, cond, List, [], ◌∷◌, ◌++◌, length, Option, Some, None, Result, Ok, Err, refl, arith}
 use Rattle.std.specs.List.{flat_map}
-use Rattle.std.specs.Prelude.{codes}
+use Rattle.std.specs.Prelude.{codes, unwrap_or}
 use Rattle.std.specs.Str.{bytes_eq}
 use Rattle.wire_time.specs.Moment.{greatest_moment}
 use Rattle.std.proofs.Math.Nat.{mul-le-mul_left}
@@ -14,8 +14,9 @@ use Rattle.script.specs.declared.faults.ScriptFault.{ScriptFault}
 use Rattle.script.specs.declared.faults.ScriptFault.TheVariants.{UnknownLine, BadNumber, ClockTooLate}
 use Rattle.traffic.specs.Frames.{by_moment, frame_after, frames_after, frames_in_turn, frames_of, insert}
 use Rattle.traffic.specs.Merged.{AreComing, IsComing}
-use Rattle.traffic.specs.Table.{Table, by_ends, by_number, ends_in, ends_in_time, has_ids, in_line, judged, judged_line, judged_now, line_judged, moved, stream_in_words, stream_said, table_by, table_of, with_line}
-use Rattle.traffic.specs.declared.table.Ends.{Ends}
+use Rattle.traffic.specs.Parts.{ends_in}
+use Rattle.traffic.specs.Table.{Table, earliest, by_ends, by_number, by_offset, ends_in_time, has_ids, in_line, judged, judged_line, judged_now, line_judged, moved, offset_in, shortest_of, stream_in_words, stream_said, table_by, table_of, with_line}
+use Rattle.traffic.specs.declared.parts.Ends.{Ends}
 use Rattle.traffic.specs.declared.table.Stream.{Stream}
 use Rattle.traffic.specs.declared.turn.Coming.{Coming}
 
@@ -49,20 +50,39 @@ by_ends_small : (r : Result Ends ScriptFault) (f : Ends → Result Stream Script
 by_ends_small (Ok ends) f h = h ends
 by_ends_small (Err fault) f h = tt
 
-numbers_small : (id priority len period offset count : Option ℕ) (ends : Ends) → ((n : ℕ) → priority ≡ Some n → n < 2 ^ 8) → ((n : ℕ) → len ≡ Some n → n < 2 ^ 32)
-    → IsSmall (by_number id (λ id. by_number priority (λ priority. by_number len (λ len. by_number period (λ period. by_number offset (λ offset. by_number count (λ count.
-    Ok (record { first_id = id; priority = priority; len = len; period = period; offset = offset; count = count; tagged = ends.tagged; deadline = ends.deadline }))))))))
+shortest_small : (shortest : Option ℕ) (f : ℕ → Result Stream ScriptFault) → ((n : ℕ) → IsSmall (f n)) → IsSmall (by_number shortest f)
+shortest_small None f h = tt
+shortest_small (Some n) f h = h n
+
+abbrev stream_with : (id priority len period : ℕ) → Option ℕ → (count shortest : ℕ) → Ends → Stream
+stream_with id priority len period offset count shortest ends = record {
+  first_id = id;
+  priority = priority;
+  len = len;
+  shortest = shortest;
+  period = period;
+  offset = offset;
+  jitter = unwrap_or ends.jitter 0;
+  count = count;
+  tagged = ends.tagged;
+  deadline = ends.deadline;
+}
+
+numbers_small : (id priority len period : Option ℕ) (offset : Result (Option ℕ) ScriptFault) (count : Option ℕ) (ends : Ends) → ((n : ℕ) → priority ≡ Some n → n < 2 ^ 8) → ((n : ℕ) → len ≡ Some n → n < 2 ^ 32)
+    → IsSmall (by_number id (λ id. by_number priority (λ priority. by_number len (λ len. by_number period (λ period. by_offset offset (λ offset. by_number count (λ count. by_number (shortest_of ends.shortest len) (λ shortest.
+    Ok (stream_with id priority len period offset count shortest ends)))))))))
 numbers_small None priority len period offset count ends p l = tt
 numbers_small (Some id) None len period offset count ends p l = tt
 numbers_small (Some id) (Some priority) None period offset count ends p l = tt
 numbers_small (Some id) (Some priority) (Some len) None offset count ends p l = tt
-numbers_small (Some id) (Some priority) (Some len) (Some period) None count ends p l = tt
-numbers_small (Some id) (Some priority) (Some len) (Some period) (Some offset) None ends p l = tt
-numbers_small (Some id) (Some priority) (Some len) (Some period) (Some offset) (Some count) ends p l = record { priority = p priority refl; len = l len refl }
+numbers_small (Some id) (Some priority) (Some len) (Some period) (Err fault) count ends p l = tt
+numbers_small (Some id) (Some priority) (Some len) (Some period) (Ok offset) None ends p l = tt
+numbers_small (Some id) (Some priority) (Some len) (Some period) (Ok offset) (Some count) ends p l =
+    shortest_small (shortest_of ends.shortest len) (λ shortest. Ok (stream_with id priority len period offset count shortest ends)) (λ shortest. record { priority = p priority refl; len = l len refl })
 
 words_small : (id priority len period offset count : List ℕ) (ends : Ends) → IsSmall (stream_in_words id priority len period offset count ends)
 words_small id priority len period offset count ends =
-    numbers_small (number_in 10 (2 ^ 64 - 1) id) (number_in 10 (2 ^ 8 - 1) priority) (number_in 10 (2 ^ 32 - 1) len) (time_in greatest_moment period) (time_in greatest_moment offset) (number_in 10 (2 ^ 32 - 1) count) ends
+    numbers_small (number_in 10 (2 ^ 64 - 1) id) (number_in 10 (2 ^ 8 - 1) priority) (number_in 10 (2 ^ 32 - 1) len) (time_in greatest_moment period) (offset_in offset) (number_in 10 (2 ^ 32 - 1) count) ends
     (λ n e. omega (arith, number_within 10 (2 ^ 8 - 1) n priority e))
     (λ n e. omega (arith, number_within 10 (2 ^ 32 - 1) n len e))
 
@@ -80,7 +100,7 @@ said_small (id ∷ priority ∷ len ∷ period ∷ offset ∷ count ∷ ws) = by
 -- a stream whose frames are frames of a script
 record IsGood (s : Stream) : Type 0 where
   ids : s.first_id + s.count ≤ 2 ^ 64
-  ends : s.offset + s.period * (s.count - 1) ≤ greatest_moment
+  ends : earliest s + s.jitter + s.period * (s.count - 1) ≤ greatest_moment
   small : Small s
 
 abbrev IsJudged : Result Stream ScriptFault → Type 0
@@ -95,7 +115,7 @@ now_judged s small = by_tests (has_ids s) (ends_in_time s) refl refl
     by_tests true false e f = tt
     by_tests true true e f =
         let ids : leb (s.first_id + s.count) (2 ^ 64) ≡ true = e in
-        let ends : leb (s.offset + s.period * (s.count - 1)) greatest_moment ≡ true = f in
+        let ends : leb (earliest s + s.jitter + s.period * (s.count - 1)) greatest_moment ≡ true = f in
         record { ids = grind (arith, ids); ends = grind (arith, ends); small = small }
 
 judged_from : (from : ℕ) (s : Stream) → Small s → IsJudged (judged from s)

@@ -2,7 +2,9 @@
 use Rattle.std.proofs.Common.{◌≡◌, ℕ, zero, suc, ◌+◌, List, [], ◌∷◌, ◌++◌, Option, Some, None, Result, Ok, Bool, true, false, refl, sym, ap, ◌∙◌, subst, arith, length, length-append}
 use Rattle.std.specs.Prelude.{IfSome, nat_le, nat_lt, if◌then◌else◌}
 use Rattle.std.proofs.lemmas.Bool.{ltb-false}
-use Rattle.traffic.specs.Words.{words_of, Script, End, Line, Advances, AreCounted, Coming, Few, FrameCount, Many, by_moment, counted_in, counted_line, counted_with, frames_after, frames_of, line_judged, Stream}
+use Rattle.std.proofs.lemmas.List.Sums.{sum_by-append, sum_by-cons}
+use Rattle.std.specs.List.{flat_map}
+use Rattle.traffic.specs.Words.{words_of, Script, End, Line, Advances, AreCounted, IsCount, Coming, Few, FrameCount, Many, by_moment, counted_in, counted_line, counted_with, frame_count, frames_after, frames_in_turn, frames_of, line_judged, Stream}
 use Rattle.traffic.specs.Frames.{insert}
 use Rattle.traffic.specs.declared.frame_count.TheConstants.{MOST_FRAMES}
 use Rattle.script.specs.declared.faults.ScriptFault.{ScriptFault}
@@ -46,25 +48,37 @@ module _ (judge : Stream → Result Stream ScriptFault) where
 
 -- ---- few frames are so many
 
+-- of streams that are counted, one more
+pub count_more : (number : ℕ) (counted now : FrameCount) (streams new : List Stream) (stream : Stream) → now ≡ counted_with number stream.count counted → new ≡ streams ++ stream ∷ []
+    → IsCount counted (frame_count streams) → IsCount now (frame_count new)
+count_more number (Many line) now streams new stream n a is = subst (λ c. IsCount c (frame_count new)) (sym n) tt
+count_more number (Few frames) now streams new stream n a is = subst (λ c. IsCount c (frame_count new)) (sym n) (by_test (nat_lt MOST_FRAMES (frames + stream.count)) refl) where
+  more : frame_count new ≡ frame_count streams + stream.count
+  more =
+      let one = sum_by-cons (λ (s : Stream). s.count) stream [] in
+      let all = ap frame_count a ∙ sum_by-append (λ (s : Stream). s.count) streams (stream ∷ []) in
+      omega (arith, one, all)
+
+  by_test : (t : Bool) → nat_lt MOST_FRAMES (frames + stream.count) ≡ t → IsCount (if t then Many number else Few (frames + stream.count)) (frame_count new)
+  by_test true e = tt
+  by_test false e = (omega (arith, more, is.0), ltb-false MOST_FRAMES (frames + stream.count) e)
+
+-- ---- as many frames
+
 -- a stream's frames
 after_long : (s : Stream) (k n : ℕ) → length (frames_after s k n) ≡ n
 unfolding frames_after
 after_long s k zero = refl
 after_long s k (suc n) = ap suc (after_long s (k + 1) n)
 
--- of frames that are counted, and those of a stream more
-pub few_more : (number more : ℕ) (counted : FrameCount) (all others : List Coming) → length others ≡ more → AreCounted counted all → AreCounted (counted_with number more counted) (all ++ others)
-few_more number more (Many line) all others long is = tt
-few_more number more (Few frames) all others long is = by_test (nat_lt MOST_FRAMES (frames + more)) refl where
-  by_test : (t : Bool) → nat_lt MOST_FRAMES (frames + more) ≡ t → AreCounted (if t then Many number else Few (frames + more)) (all ++ others)
-  by_test true e = tt
-  by_test false e =
-      let both = length-append all others in
-      (omega (arith, both, long, is.0), ltb-false MOST_FRAMES (frames + more) e)
-
-pub few_of_stream : (number : ℕ) (stream : Stream) (counted now : FrameCount) (before all : List Coming) → now ≡ counted_with number stream.count counted → all ≡ before ++ frames_of stream → AreCounted counted before → AreCounted now all
-few_of_stream number stream counted now before all n a is =
-    subst (λ c. AreCounted c all) (sym n) (subst (AreCounted (counted_with number stream.count counted)) (sym a) (few_more number stream.count counted before (frames_of stream) (after_long stream 0 stream.count) is))
+all_long : (streams : List Stream) → length (flat_map frames_of streams) ≡ frame_count streams
+all_long [] = refl
+all_long (s ∷ streams) =
+    let one = length-append (frames_of s) (flat_map frames_of streams) in
+    let first = after_long s 0 s.count in
+    let rest = all_long streams in
+    let sum = sum_by-cons (λ (x : Stream). x.count) s streams in
+    omega (arith, one, first, rest, sum)
 
 -- by moment they are as many
 inserted_long : (f : Coming) (fs : List Coming) → length (insert f fs) ≡ suc (length fs)
@@ -80,6 +94,5 @@ unfolding by_moment
 sorted_long [] = refl
 sorted_long (f ∷ fs) = inserted_long f (by_moment fs) ∙ ap suc (sorted_long fs)
 
-pub few_by_moment : (counted : FrameCount) (fs : List Coming) → AreCounted counted fs → AreCounted counted (by_moment fs)
-few_by_moment (Many line) fs is = tt
-few_by_moment (Few frames) fs is = (sorted_long fs ∙ is.0, is.1)
+pub counted_by_moment : (counted : FrameCount) (streams : List Stream) → IsCount counted (frame_count streams) → AreCounted counted (frames_in_turn streams)
+counted_by_moment counted streams is = subst (IsCount counted) (sym (sorted_long (flat_map frames_of streams) ∙ all_long streams)) is

@@ -11,6 +11,7 @@ mod MergedLaws
 mod NodeLaws
 mod OrderLaws
 mod OutcomeLaws
+mod PartLaws
 mod ReadLaws
 mod SaidLaws
 pub mod TableLaws

@@ -2,7 +2,7 @@
 use Rattle.std.proofs.Common.{◌≡◌, ◌<◌, ◌≤◌, ◌+◌, ◌-◌, ◌*◌, ◌/◌, ◌%◌, ◌^◌, ℕ, Bool, true, false, Option, Some, None, bit_and, refl, sym, ap, ◌∙◌, arith}
 use Rattle.std.specs.Prelude.{if◌then◌else◌, nat_lt, ◌==◌, ◌&&◌, ◌||◌}
 use Rattle.std.proofs.lemmas.Bool.{eqb-false, eqb-true, ltb-false, ltb-true}
-use Rattle.traffic.specs.Kept.{head_kept}
+use Rattle.traffic.specs.Head.{head_kept}
 use Rattle.traffic.specs.Words.{first_of_two}
 use Rattle.traffic.specs.declared.tournament.Head.{Head}
 use Rattle.traffic.specs.declared.tournament.TheConstants.{NEVER, PLACES}

@@ -1,7 +1,7 @@
 -- Frames by rising moment.
 use Rattle.std.proofs.Common.{◌≡◌, ◌<◌, ◌≤◌, ◌+◌, ◌*◌, ◌-◌, ℕ, zero, suc, List, [], ◌∷◌, ◌++◌, Bool, true, false, cond, Some, None, refl, ap, ◌∙◌, arith, le_refl, le_trans, mul-le-mul_left}
 use Rattle.std.proofs.lemmas.Bool.{le-leb, lt-leb}
-use Rattle.traffic.specs.Words.{by_moment, first_of, frame_after, frames_after, Stream, Coming}
+use Rattle.traffic.specs.Words.{by_moment, earliest, first_of, frame_after, frames_after, Stream, Coming}
 use Rattle.traffic.specs.Frames.{insert}
 
 -- no frame comes before a moment
@@ -18,15 +18,15 @@ from_earlier m n [] le h = tt
 from_earlier m n (f ∷ fs) le h = (le_trans le h.0, from_earlier m n fs le h.1)
 
 -- the frames of a stream rise
-pub rising : (s : Stream) (k n : ℕ) → FromOn (s.offset + s.period * k) (frames_after s k n)
+pub rising : (s : Stream) (k n : ℕ) → FromOn (earliest s + s.period * k) (frames_after s k n)
 unfolding frames_after
 rising s k zero = tt
 rising s k (suc n) =
     let on : s.period * k ≤ s.period * (k + 1) = mul-le-mul_left s.period (let l : k ≤ k + 1 = omega arith in l) in
-    (le_refl _, from_earlier (s.offset + s.period * k) (s.offset + s.period * (k + 1)) (frames_after s (k + 1) n) (omega (arith, on)) (rising s (k + 1) n))
+    (le_refl _, from_earlier (earliest s + s.period * k) (earliest s + s.period * (k + 1)) (frames_after s (k + 1) n) (omega (arith, on)) (rising s (k + 1) n))
 
 -- the first of them, if there is one
-pub first_is : (s : Stream) (k n : ℕ) (f : Coming) → first_of (frames_after s k n) ≡ Some f → f.moment ≡ s.offset + s.period * k
+pub first_is : (s : Stream) (k n : ℕ) (f : Coming) → first_of (frames_after s k n) ≡ Some f → f.moment ≡ earliest s + s.period * k
 unfolding frames_after
 first_is s k zero f e = absurd cc
 first_is s k (suc n) f e = cc

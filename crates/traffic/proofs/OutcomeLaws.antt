@@ -2,14 +2,13 @@
 use Rattle.std.proofs.Common.{◌≡◌, ℕ, ◌-◌, List, [], Option, Some, None, Result, Ok, Err, refl, sym, ap, ◌∙◌, subst}
 use Rattle.std.specs.Prelude.{IfSome, option_map}
 use Rattle.octet_writer.proofs.Fronts.{Appends-nil, sent_none}
-use Rattle.traffic.specs.Words.{Script, by_moment, Few, FrameCount, Runs, counted_in, crowded_line, judged, line_count, lines_taken, merging, outcome_among, outcome_by_lines, outcome_in, outcome_of, passed_on, ReadsTable, Table, table_of, table_fault, left_of_all, Fault, StreamsInput, Coming, Turn}
+use Rattle.traffic.specs.Words.{Script, Few, FrameCount, Runs, counted_in, crowded, frames_in_turn, judged, line_count, lines_taken, merging, outcome_among, outcome_by_lines, outcome_in, outcome_of, passed_on, ReadsTable, Table, table_of, table_fault, Fault, Stream, StreamsInput, Coming}
 use Rattle.line_reader.specs.Script.{script_of}
-use Rattle.line_reader.specs.declared.lines.Limit.TheVariants.{TooManyLines}
-use Rattle.line_reader.specs.declared.lines.LineFault.TheVariants as LineFaults
 use Rattle.line_reader.specs.declared.lines.TheConstants.{MAX_LINES}
 use Rattle.job.specs.Outcome.{Outcome}
 use Rattle.traffic.specs.Outcome.{outcome_unless, outcome_within}
 use Rattle.job.specs.declared.fault.Fault.TheVariants as Faults
+use Rattle.script.specs.declared.faults.BadLine.{BadLine}
 use Rattle.traffic.specs.declared.faults.StreamsInput.TheVariants as Inputs
 
 -- the frames have room
@@ -21,10 +20,10 @@ among {T} f counted frames (Some lines) old new taken e w =
     subst P e w
 
 -- they have none: nothing is written
-pub crowded : {T : Type 0} {f : Result T (Fault StreamsInput)} (counted : FrameCount) (frames : List Coming) (script : Option Script) (old : Option (List ℕ))
-    → None ≡ lines_taken (line_count None frames) → f ≡ Err (table_fault (LineFaults.Limit (crowded_line counted) TooManyLines)) → IfSome script (λ lines. Runs f old old (outcome_among counted frames lines))
-crowded counted frames None old e h = tt
-crowded {T} {f} counted frames (Some lines) old e h =
+pub crowds : {T : Type 0} {f : Result T (Fault StreamsInput)} (counted : FrameCount) (frames : List Coming) (script : Option Script) (old : Option (List ℕ))
+    → None ≡ lines_taken (line_count None frames) → f ≡ Err (crowded counted) → IfSome script (λ lines. Runs f old old (outcome_among counted frames lines))
+crowds counted frames None old e h = tt
+crowds {T} {f} counted frames (Some lines) old e h =
     let P : Option ℕ → Type 0 = λ n. Runs f old old (outcome_within n counted frames lines) in
     let Q : Result T (Fault StreamsInput) → Type 0 = λ x. Runs x old old (outcome_within None counted frames lines) in
     subst P e (subst Q (sym h) (refl, Appends-nil old))
@@ -39,36 +38,36 @@ starved {T} {f} counted frames (Some lines) old h =
 
 module _ (from : ℕ) where
   -- a table without a fault
-  among_is : {T : Type 0} (x : T) (counted : FrameCount) (table : Table) (turns : List Turn) (script : Script) → ReadsTable (Ok x) table [] turns → outcome_in counted table script ≡ outcome_among counted (left_of_all turns) script
-  among_is x counted table turns script h = ap (λ fault. outcome_unless fault counted table.streams script) h.0 ∙ ap (λ fs. outcome_among counted (by_moment fs) script) (sym h.1)
+  among_is : {T : Type 0} (x : T) (counted : FrameCount) (table : Table) (streams : List Stream) (script : Script) → ReadsTable (Ok x) table [] streams → outcome_in counted table script ≡ outcome_among counted (frames_in_turn streams) script
+  among_is x counted table streams script h = ap (λ fault. outcome_unless fault counted table.streams script) h.0 ∙ ap (λ (xs : List Stream). outcome_among counted (frames_in_turn xs) script) (sym h.1)
 
-  pub merged_with : {T : Type 0} (f : Result T (Fault StreamsInput)) (counted : FrameCount) (table script : Option Script) (turns : List Turn) (old new : Option (List ℕ))
-      → IfSome table (λ lines. ReadsTable (Ok counted) (table_of from lines) [] turns) → IfSome table (λ lines. counted ≡ counted_in (judged from) (Few 0) lines)
-      → IfSome script (λ lines. Runs f old new (outcome_among counted (left_of_all turns) lines)) → IfSome table (λ lines. IfSome script (λ others. Runs f old new (outcome_by_lines from lines others)))
-  merged_with f counted None script turns old new h n w = tt
-  merged_with f counted (Some lines) None turns old new h n w = tt
-  merged_with {T} f counted (Some lines) (Some others) turns old new h n w =
+  pub merged_with : {T : Type 0} (f : Result T (Fault StreamsInput)) (counted : FrameCount) (table script : Option Script) (streams : List Stream) (old new : Option (List ℕ))
+      → IfSome table (λ lines. ReadsTable (Ok counted) (table_of from lines) [] streams) → IfSome table (λ lines. counted ≡ counted_in (judged from) (Few 0) lines)
+      → IfSome script (λ lines. Runs f old new (outcome_among counted (frames_in_turn streams) lines)) → IfSome table (λ lines. IfSome script (λ others. Runs f old new (outcome_by_lines from lines others)))
+  merged_with f counted None script streams old new h n w = tt
+  merged_with f counted (Some lines) None streams old new h n w = tt
+  merged_with {T} f counted (Some lines) (Some others) streams old new h n w =
       let P : Outcome StreamsInput → Type 0 = λ whole. Runs f old new whole in
       let Q : FrameCount → Type 0 = λ count. Runs f old new (outcome_in count (table_of from lines) others) in
-      subst Q n (subst P (sym (among_is counted counted (table_of from lines) turns others h)) w)
+      subst Q n (subst P (sym (among_is counted counted (table_of from lines) streams others h)) w)
 
   -- the table has a fault, or could not be read: nothing is written
-  unwritten : (T : Type 0) (fault : Fault StreamsInput) (counted : FrameCount) (table : Table) (before turns : List Turn) (script : Script) (old : Option (List ℕ)) → ReadsTable {T = FrameCount} (Err fault) table before turns → Runs {T = T} (Err fault) old old (outcome_in counted table script)
-  unwritten T (Faults.Input (Inputs.Table number fault)) counted table before turns script old h =
-      let P : Outcome StreamsInput → Type 0 = λ whole. Runs {T = T} (Err (Faults.Input (Inputs.Table number fault))) old old whole in
+  unwritten : (T : Type 0) (fault : Fault BadLine) (counted : FrameCount) (table : Table) (before streams : List Stream) (script : Script) (old : Option (List ℕ)) → ReadsTable {T = FrameCount} (Err fault) table before streams
+      → Runs {T = T} (Err (table_fault fault)) old old (outcome_in counted table script)
+  unwritten T (Faults.Input bad) counted table before streams script old h =
+      let P : Outcome StreamsInput → Type 0 = λ whole. Runs {T = T} (Err (Faults.Input (Inputs.Table bad.line bad.fault))) old old whole in
       subst P (sym (ap (λ f. outcome_unless f counted table.streams script) h)) (refl, Appends-nil old)
-  unwritten T (Faults.Input (Inputs.Script number fault)) counted table before turns script old h = absurd h
-  unwritten T Faults.Read counted table before turns script old h = ((outcome_in counted table script).text, sent_none old (outcome_in counted table script).text)
-  unwritten T Faults.Write counted table before turns script old h = absurd h
-  unwritten T Faults.Memory counted table before turns script old h = ((outcome_in counted table script).text, sent_none old (outcome_in counted table script).text)
+  unwritten T Faults.Read counted table before streams script old h = ((outcome_in counted table script).text, sent_none old (outcome_in counted table script).text)
+  unwritten T Faults.Write counted table before streams script old h = absurd h
+  unwritten T Faults.Memory counted table before streams script old h = ((outcome_in counted table script).text, sent_none old (outcome_in counted table script).text)
 
-  pub unread : {T : Type 0} {f : Result T (Fault StreamsInput)} (fault : Fault StreamsInput) (table script : Option Script) (before turns : List Turn) (old : Option (List ℕ))
-      → IfSome table (λ lines. ReadsTable {T = FrameCount} (Err fault) (table_of from lines) before turns) → f ≡ Err fault → IfSome table (λ lines. IfSome script (λ others. Runs f old old (outcome_by_lines from lines others)))
-  unread fault None script before turns old h e = tt
-  unread fault (Some lines) None before turns old h e = tt
-  unread {T} {f} fault (Some lines) (Some others) before turns old h e =
+  pub unread : {T : Type 0} {f : Result T (Fault StreamsInput)} (fault : Fault BadLine) (table script : Option Script) (before streams : List Stream) (old : Option (List ℕ))
+      → IfSome table (λ lines. ReadsTable {T = FrameCount} (Err fault) (table_of from lines) before streams) → f ≡ Err (table_fault fault) → IfSome table (λ lines. IfSome script (λ others. Runs f old old (outcome_by_lines from lines others)))
+  unread fault None script before streams old h e = tt
+  unread fault (Some lines) None before streams old h e = tt
+  unread {T} {f} fault (Some lines) (Some others) before streams old h e =
       let P : Result T (Fault StreamsInput) → Type 0 = λ r. Runs r old old (outcome_by_lines from lines others) in
-      subst P (sym e) (unwritten T fault (counted_in (judged from) (Few 0) lines) (table_of from lines) before turns others old h)
+      subst P (sym e) (unwritten T fault (counted_in (judged from) (Few 0) lines) (table_of from lines) before streams others old h)
 
   -- out of memory before anything is read
   pub refused : {T : Type 0} {f : Result T (Fault StreamsInput)} (table script old : Option (List ℕ)) → f ≡ Err Faults.Memory → IfSome table (λ octets. IfSome script (λ others. Runs f old old (outcome_of from octets others)))

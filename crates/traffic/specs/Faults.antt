@@ -4,17 +4,22 @@ use Rattle.line_reader.specs.declared.lines.LineFault.{LineFault}
 use Rattle.job.specs.Lines.{fault_of_line}
 use Rattle.job.specs.Report.{Telling}
 use Rattle.job.specs.declared.fault.Fault.{Fault}
+use Rattle.job.specs.declared.fault.Fault.TheVariants as Faults
 use Rattle.job.specs.declared.kind.FaultKind.{FaultKind}
 use Rattle.job.specs.declared.kind.FaultKind.TheVariants as Kinds
 use Rattle.script.specs.Kinds.{line_kind, table_kind}
 use Rattle.script.specs.Outcome.{limit_fault}
 use Rattle.script.specs.Texts.{line_text}
+use Rattle.script.specs.declared.faults.BadLine.{BadLine}
 use Rattle.traffic.specs.declared.faults.StreamsInput.{StreamsInput}
 use Rattle.traffic.specs.declared.faults.StreamsInput.TheVariants as Inputs
 
--- the fault of a table whose line can not be read
-abbrev pub table_fault : LineFault → Fault StreamsInput
-table_fault fault = fault_of_line (λ number limit. Inputs.Table number (limit_fault limit)) fault
+-- a fault that reading a table has, as one of the job
+abbrev pub table_fault : Fault BadLine → Fault StreamsInput
+table_fault (Faults.Input bad) = Faults.Input (Inputs.Table bad.line bad.fault)
+table_fault Faults.Read = Faults.Read
+table_fault Faults.Write = Faults.Write
+table_fault Faults.Memory = Faults.Memory
 
 -- a fault that the lines of a script have, as a fault of the job
 abbrev pub script_fault : LineFault → Fault StreamsInput

@@ -1,8 +1,9 @@
 pub mod Faults
-pub mod TableRead
 pub mod Parts
 pub mod Table
+pub mod TableRead
 pub mod Frames
+pub mod Head
 pub mod Kept
 pub mod Tournament
 pub mod Turns

@@ -10,6 +10,8 @@ use Rattle.traffic.specs.Merge.{merged}
 use Rattle.traffic.specs.Room.{counted_in, crowded_line, line_count, lines_taken, passed_on}
 use Rattle.traffic.specs.Table.{Table, judged, table_of}
 use Rattle.job.specs.Outcome.{Outcome}
+use Rattle.job.specs.declared.fault.Fault.{Fault}
+use Rattle.job.specs.declared.fault.Fault.TheVariants as Faults
 use Rattle.traffic.specs.declared.faults.StreamsInput.{StreamsInput}
 use Rattle.traffic.specs.declared.faults.StreamsInput.TheVariants as Inputs
 use Rattle.traffic.specs.declared.frame_count.FrameCount.{FrameCount}
@@ -27,11 +29,18 @@ fault_in (Line number line rest) = fault_in rest
 abbrev pub merging : Option ℕ → Script → List Coming → Outcome StreamsInput
 merging clock script frames = record { text = merged clock script frames; fault = fault_in script }
 
+-- the fault of a table whose frames have no room in a script: that of the line with which they become many
+abbrev pub crowded_table : FrameCount → StreamsInput
+crowded_table counted = Inputs.Table (crowded_line counted) (limit_fault TooManyLines)
+
+abbrev pub crowded : FrameCount → Fault StreamsInput
+crowded counted = Faults.Input (crowded_table counted)
+
 -- the outcome where the frames take so many lines of the script, if it has room for them: the script's lines have what is left; and where it
 -- has no room, nothing is written, and the fault is at the line with which the frames become many
 abbrev pub outcome_within : Option ℕ → FrameCount → List Coming → Script → Outcome StreamsInput
 outcome_within (Some count) counted frames script = merging None (passed_on (MAX_LINES - count) script) frames
-outcome_within None counted frames script = record { text = []; fault = Some (Inputs.Table (crowded_line counted) (limit_fault TooManyLines)) }
+outcome_within None counted frames script = record { text = []; fault = Some (crowded_table counted) }
 
 -- the outcome of frames by rising moment and the lines of a script
 abbrev pub outcome_among : FrameCount → List Coming → Script → Outcome StreamsInput

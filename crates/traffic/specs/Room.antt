@@ -1,5 +1,5 @@
 -- How many lines the frames of streams take in a script, and what of another script has room among them.
-use Rattle.std.specs.Prelude.{◌≡◌, ◌≤◌, ⊤, ℕ, ◌+◌, ◌-◌, ◌==◌, ◌&&◌, nat_le, nat_lt, count_by, List, [], ◌∷◌, length, Option, Some, None, option_map, Result, Ok, Err, if◌then◌else◌}
+use Rattle.std.specs.Prelude.{◌≡◌, ◌≤◌, ⊤, ℕ, ◌+◌, ◌-◌, ◌==◌, ◌&&◌, nat_le, nat_lt, count_by, sum_by, List, [], ◌∷◌, length, Option, Some, None, option_map, Result, Ok, Err, if◌then◌else◌}
 use Rattle.line_reader.specs.Script.{Script, End, Broken, Line, joins}
 use Rattle.line_reader.specs.declared.lines.Limit.{Limit}
 use Rattle.line_reader.specs.declared.lines.Limit.TheVariants.{LongLine, TooManyLines}
@@ -59,10 +59,17 @@ abbrev pub crowded_line : FrameCount → ℕ
 crowded_line (Few frames) = 0
 crowded_line (Many line) = line
 
+-- how many frames streams have
+abbrev pub frame_count : List Stream → ℕ
+frame_count streams = sum_by (λ s. s.count) streams
+
 -- few frames are so many
+abbrev pub IsCount : FrameCount → ℕ → Type 0
+IsCount (Few frames) all = (all ≡ frames) × (frames ≤ MOST_FRAMES)
+IsCount (Many line) all = ⊤
+
 abbrev pub AreCounted : FrameCount → List Coming → Type 0
-AreCounted (Few frames) all = (length all ≡ frames) × (frames ≤ MOST_FRAMES)
-AreCounted (Many line) all = ⊤
+AreCounted counted all = IsCount counted (length all)
 
 -- how many lines of a script have room for sure
 abbrev pub lines_known : ScriptRoom → ℕ

@@ -1,5 +1,5 @@
 -- What the lines of a table of streams say.
-use Rattle.std.specs.Prelude.{◌≤◌, ◌^◌, ◌-◌, ◌+◌, ◌*◌, nat_le, List, ℕ, Bool, true, false, [], ◌∷◌, Option, Some, None, Result, Ok, Err, unwrap_or, codes, if◌then◌else◌}
+use Rattle.std.specs.Prelude.{◌≤◌, ◌^◌, ◌-◌, ◌+◌, ◌*◌, nat_le, List, ℕ, Bool, [], ◌∷◌, Option, Some, None, Result, Ok, Err, unwrap_or, codes, if◌then◌else◌}
 use Rattle.std.specs.Str.{bytes_eq}
 use Rattle.wire_time.specs.Moment.{greatest_moment}
 use Rattle.words.specs.Words.{words_of}

@@ -13,15 +13,16 @@ pub use Rattle.script.specs.Given.{octets_of}
 pub use Rattle.script.specs.Outcome.{limit_fault}
 pub use Rattle.traffic.specs.StreamsEnd.{IsStreamsEnding, from_given}
 pub use Rattle.traffic.specs.Faults.{script_fault, streams_telling, table_fault}
-pub use Rattle.traffic.specs.Frames.{first_of, frame_after, frames_of, next_of_stream}
+pub use Rattle.traffic.specs.Frames.{first_of, frame_after, frames_in_turn, frames_of, next_of_stream}
 unfoldable pub use Rattle.traffic.specs.Frames.{by_moment, frames_after}
 pub use Rattle.traffic.specs.Merge.{clock_after, clock_in, clock_said, latest, line_end, line_text, passed_line}
 unfoldable pub use Rattle.traffic.specs.Merge.{frames_before, frames_from}
-pub use Rattle.traffic.specs.Outcome.{merging, outcome_among, outcome_by_lines, outcome_in, outcome_of}
-pub use Rattle.traffic.specs.Room.{AreCounted, IsRoomFor, IsRoomLeft, clock_count, counted_line, counted_with, crowded_line, limit_passed, line_feeds, lines_known, lines_taken, room_beside, unless_passed}
+pub use Rattle.traffic.specs.Outcome.{crowded, merging, outcome_among, outcome_by_lines, outcome_in, outcome_of}
+pub use Rattle.traffic.specs.Room.{AreCounted, IsCount, IsRoomFor, IsRoomLeft, clock_count, counted_line, counted_with, crowded_line, frame_count, limit_passed, line_feeds, lines_known, lines_taken, room_beside, unless_passed}
 unfoldable pub use Rattle.traffic.specs.Room.{counted_in, line_count, passed_on}
-pub use Rattle.traffic.specs.TableRead.{ReadsTable}
+pub use Rattle.traffic.specs.TableRead.{IsTaken, IsUntaken, ReadsTable, TakesLine}
 pub use Rattle.traffic.specs.Table.{HasTimes, IsStream, Table, earliest, ends_in_time, has_ids, judged, line_judged, line_said, moved, offset_in, shortest_of, stream_in_words, stream_said, table_of}
+unfoldable pub use Rattle.traffic.specs.Table.{table_by}
 pub use Rattle.traffic.specs.Parts.{ends_in, is_part, length_of, said_by, tagged_in, time_of, values_in}
 unfoldable pub use Rattle.traffic.specs.Parts.{are_parts, value_of}
 pub use Rattle.traffic.specs.Tournament.{IsBefore, IsNode, IsTournament, first_of_two, found_at, head_of, is_before}

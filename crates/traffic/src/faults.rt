@@ -7,7 +7,7 @@ ghost use Rattle.traffic.specs.Words.{script_fault, streams_telling, table_fault
 use answer_text::WriteFault;
 use job::{Fault, FaultKind, InputFault};
 use line_reader::LineFault;
-use script::{ScriptFault, limit_fault, put_line_fault};
+use script::{RunFault, ScriptFault, limit_fault, put_line_fault};
 use std::io::Write;
 use thiserror::Error;
 
@@ -26,16 +26,15 @@ pub enum StreamsInput {
 /// Why a run on a table of streams and a script ended early.
 pub type StreamsFault = Fault<StreamsInput>;
 
-/// The fault of a table whose line can't be read.
-pub(crate) fn table_fault(fault: LineFault) -> StreamsFault
+/// A fault that reading a table has, as one of the job.
+pub fn table_fault(fault: RunFault) -> StreamsFault
     ensures { result ≡ table_fault fault }
 {
     match fault {
-        LineFault::Limit(line, limit) => Fault::Input(StreamsInput::Table(
-            line,
-            limit_fault(limit),
-        )),
-        LineFault::Read => Fault::Read,
+        Fault::Input(bad) => Fault::Input(StreamsInput::Table(bad.line, bad.fault)),
+        Fault::Read => Fault::Read,
+        Fault::Write => Fault::Write,
+        Fault::Memory => Fault::Memory,
     }
 }
 

@@ -8,7 +8,7 @@ const MOST_FRAMES: u32 = 2_000_000;
 
 /// How many frames the streams of a table have so far.
 #[derive(Clone, Copy, Debug, PartialEq, Eq)]
-pub(crate) enum FrameCount {
+pub enum FrameCount {
     /// So many, for which a script has room wherever they come.
     Few(u32),
     /// More, with the line of the table of this number.

@@ -8,6 +8,7 @@
 mod faults;
 mod frame_count;
 mod frame_lines;
+mod kept;
 pub mod laws;
 mod merge;
 mod parts;
@@ -15,11 +16,14 @@ mod room;
 mod streams;
 mod streams_job;
 mod table;
+mod table_reader;
 mod tournament;
 mod turn;
 mod turns;
 
-pub use faults::{StreamsFault, StreamsInput};
+pub use faults::{StreamsFault, StreamsInput, table_fault};
+pub use frame_count::FrameCount;
 pub use streams::write_streams;
 pub use streams_job::{answer_streams, from_given};
-pub use table::{Stream, earliest, has_ids, read_stream_line, tell_stream};
+pub use table::{Stream, earliest, has_ids, tell_stream};
+pub use table_reader::{StreamTaker, Untaken, read_table};

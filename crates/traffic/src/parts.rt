@@ -36,7 +36,9 @@ fn value_of<'a>(mut words: Words<'a>, name: &[u8]) -> Option<&'a [u8]>
         (λ value. value_of name.now (words_left words.entry) ≡ Some value.now) }
 {
     'parts: while let Some(word) = words.next_word() {
-        let value = words.next_word()?;
+        let Some(value) = words.next_word() else {
+            return None;
+        };
         if word == name {
             return Some(value);
         }
@@ -49,7 +51,10 @@ fn are_parts(mut words: Words<'_>) -> bool
     ensures { result ≡ are_parts (words_left words.entry) }
 {
     'parts: while let Some(word) = words.next_word() {
-        if words.next_word().is_none() || !is_part(word) {
+        let Some(_) = words.next_word() else {
+            return false;
+        };
+        if !is_part(word) {
             return false;
         }
         if value_of(words, word).is_some() {

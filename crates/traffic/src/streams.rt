@@ -1,99 +1,58 @@
 //! A table of streams becomes a script.
 
-ghost use Rattle.std.specs.Prelude.{◌≡◌, ◌≤◌, ◌++◌, [], IfErr, IfOk, IfSome, OnOk};
-ghost use Rattle.traffic.specs.Words.{AreCounted, greatest_moment, script_left, Runs, outcome_among, outcome_by_lines, outcome_of, ReadsTable, IsStream, counted_in, judged, table_of, frames_of, left_of, left_of_all, Few};
-ghost use Rattle.std.specs.List.{flat_map};
-ghost use Rattle.job.specs.declared.fault.Fault.TheVariants as Faults;
+ghost use Rattle.std.specs.Prelude.{◌≡◌, ◌≤◌, All, IfSome};
+ghost use Rattle.traffic.specs.Words.{AreCounted, IsStream, Runs, crowded, frames_in_turn, greatest_moment, outcome_among, outcome_by_lines, outcome_of, script_left};
 
 use crate::faults::{StreamsFault, StreamsInput, table_fault};
 use crate::frame_count::FrameCount;
+use crate::kept::{KeptStreams, turns_of};
 use crate::merge::write_merged;
 use crate::room::script_room;
-use crate::table::{Stream, read_line, tell_stream};
+use crate::table::Stream;
+use crate::table_reader::read_table;
 use crate::tournament::tournament;
-use crate::turn::Turn;
-use line_reader::{Limit, LineFault, LineReader};
+use line_reader::{Limit, LineReader};
 use octet_writer::PutLine;
-use script::Watch;
+use script::{Watch, limit_fault};
 use std::alloc::Allocator;
 use std::io::Read;
 
-/// Keeps a stream after the others.
-#[tactic(auto, using(crate::proofs::TableLaws::pushed))]
-fn keep<A: Allocator>(turns: &mut Vec<Turn, A>, stream: Stream) -> Result<(), StreamsFault>
-    requires { IsStream stream }
-    ensures kept { OnOk result (flat_map left_of turns.new.items ≡ flat_map left_of turns.old.items ++ frames_of stream) }
-    ensures memory { IfErr result (λ fault. fault ≡ Faults.Memory) }
+/// The fault of a table whose frames have no room in a script.
+fn crowded(counted: FrameCount) -> StreamsFault
+    ensures { result ≡ crowded counted }
 {
-    match turns.push(Turn::first(stream)) {
-        Ok(()) => Ok(()),
-        Err(_) => Err(StreamsFault::Memory),
-    }
-}
-
-/// Reads the lines of a table that are to come, whose frames come so much later, after the streams that are read; and
-/// counts their frames.
-fn read_streams<A: Allocator, B: Allocator, R: Read + Drop, H: Watch>(
-    lines: &mut LineReader<R, A>,
-    turns: &mut Vec<Turn, B>,
-    from: u128,
-    watch: &mut H,
-) -> Result<FrameCount, StreamsFault>
-    requires { from ≤ greatest_moment }
-    ensures table { IfSome (script_left R.remaining lines.old) (λ script. ReadsTable result (table_of from script) turns.old.items turns.new.items) }
-    ensures counted { IfSome (script_left R.remaining lines.old) (λ script. IfOk result (λ counted. counted ≡ counted_in (judged from) (Few 0) script)) }
-    ensures few { flat_map left_of turns.old.items ≡ [] → IfOk result (λ counted. AreCounted counted (left_of_all turns.new.items)) }
-{
-    let mut counted = FrameCount::Few(0);
-    'lines: loop {
-        let more = match lines.advance() {
-            Ok(more) => more,
-            Err(fault) => return Err(table_fault(fault)),
-        };
-        if !more {
-            break;
-        }
-        match read_line(lines.line(), from) {
-            Ok(None) => {}
-            Ok(Some(stream)) => {
-                tell_stream(lines.line_number(), &stream, watch);
-                counted = counted.with(lines.line_number(), stream.count);
-                keep(turns, stream)?;
-            }
-            Err(fault) => {
-                watch.line_failed(lines.line());
-                return Err(StreamsFault::Input(StreamsInput::Table(lines.line_number(), fault)));
-            }
-        }
-    }
-    Ok(counted)
+    let fault = limit_fault(Limit::TooManyLines);
+    StreamsFault::Input(StreamsInput::Table(counted.crowded_line(), fault))
 }
 
 /// Writes the frames of streams that are read among the lines of a script, if the frames have room in a script; else
 /// nothing is written.
 fn write_streams_read<A: Allocator, B: Allocator + Clone, R: Read + Drop, W: PutLine, H: Watch>(
-    alloc: B,
-    turns: &mut [Turn],
+    alloc: &B,
+    streams: &[Stream],
     counted: FrameCount,
     script: &mut LineReader<R, A>,
     writer: &mut W,
     watch: &mut H,
 ) -> Result<(), StreamsFault>
-    requires { AreCounted counted (left_of_all turns.old) }
-    ensures { IfSome (script_left R.remaining script.old) (λ script. Runs result (W.contents writer.old) (W.contents writer.new) (outcome_among counted (left_of_all turns.old) script)) }
+    requires fit { All IsStream streams.now }
+    requires counted { AreCounted counted (frames_in_turn streams.now) }
+    ensures { IfSome (script_left R.remaining script.old) (λ script. Runs result (W.contents writer.old) (W.contents writer.new) (outcome_among counted (frames_in_turn streams.now) script)) }
 {
-    let mut streams = turns.to_vec(alloc.clone()?)?;
-    let streams = streams.as_mut_slice();
-    let Some(room) = script_room(alloc.clone()?, streams, counted)? else {
-        return Err(table_fault(LineFault::Limit(counted.crowded_line(), Limit::TooManyLines)));
+    let mut turns = turns_of(alloc, streams)?;
+    let mut uncounted = turns.to_vec(alloc)?;
+    let uncounted = uncounted.as_mut_slice();
+    let Some(room) = script_room(alloc, uncounted, counted)? else {
+        return Err(crowded(counted));
     };
-    let mut nodes = tournament(alloc.clone()?, turns)?;
+    let turns = turns.as_mut_slice();
+    let mut nodes = tournament(alloc, turns)?;
     write_merged(
-        &alloc,
+        alloc,
         script,
         turns,
         nodes.as_mut_slice(),
-        streams,
+        uncounted,
         room,
         writer,
         watch,
@@ -109,7 +68,7 @@ fn write_table<
     W: PutLine,
     H: Watch,
 >(
-    alloc: B,
+    alloc: &B,
     table: &mut LineReader<R, A>,
     script: &mut LineReader<S, A>,
     writer: &mut W,
@@ -119,9 +78,11 @@ fn write_table<
     requires { from ≤ greatest_moment }
     ensures { IfSome (script_left R.remaining table.old) (λ table. IfSome (script_left S.remaining script.old) (λ script. Runs result (W.contents writer.old) (W.contents writer.new) (outcome_by_lines from table script))) }
 {
-    let mut turns = Vec::new(alloc.clone()?);
-    let counted = read_streams(table, &mut turns, from, watch)?;
-    write_streams_read(alloc, turns.as_mut_slice(), counted, script, writer, watch)
+    let mut kept = KeptStreams::new(alloc, from);
+    match read_table(table, &mut kept, watch) {
+        Ok(counted) => { write_streams_read(alloc, kept.streams(), counted, script, writer, watch) }
+        Err(fault) => Err(table_fault(fault)),
+    }
 }
 
 /// Reads a table of streams to its end, and then writes a script that has the frames of all of them: each after a clock
@@ -149,5 +110,5 @@ pub fn write_streams<A: Allocator, R: Read + Drop, S: Read + Drop, W: PutLine, H
 {
     let mut table = LineReader::new(&alloc, table)?;
     let mut script = LineReader::new(&alloc, script)?;
-    write_table(&alloc, &mut table, &mut script, writer, from, watch)
+    write_table(&&alloc, &mut table, &mut script, writer, from, watch)
 }

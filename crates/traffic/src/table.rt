@@ -1,7 +1,7 @@
 //! What the lines of a table of streams say.
 
 ghost use Rattle.std.specs.Prelude.{◌≡◌, ◌≤◌, IfSome, IfOk};
-ghost use Rattle.traffic.specs.Words.{earliest, ends_in_time, greatest_moment, has_ids, judged, line_judged, line_said, moved, offset_in, shortest_of, stream_in_words, stream_said, words_left, words_of, HasTimes, IsStream};
+ghost use Rattle.traffic.specs.Words.{earliest, ends_in_time, greatest_moment, has_ids, judged, line_said, moved, offset_in, shortest_of, stream_in_words, stream_said, words_left, words_of, HasTimes, IsStream};
 
 use crate::parts::{Ends, ends_in};
 use script::{ScriptFault, Watch};
@@ -210,22 +210,6 @@ pub fn read_stream_line(line: &[u8]) -> Result<Option<Stream>, ScriptFault>
         Ok(Some(read_stream(words)?))
     } else {
         Err(ScriptFault::UnknownLine)
-    }
-}
-
-/// What a line of a table says whose frames come so much later, in picoseconds, or None where it is skipped.
-pub(crate) fn read_line(line: &[u8], from: u128) -> Result<Option<Stream>, ScriptFault>
-    requires from { from ≤ greatest_moment }
-    ensures said { result ≡ line_judged (judged from) (words_of line.now) }
-    ensures fits { IfOk result (λ said. IfSome said IsStream) }
-{
-    match read_stream_line(line) {
-        Ok(None) => Ok(None),
-        Ok(Some(stream)) => match judged(stream, from) {
-            Ok(stream) => Ok(Some(stream)),
-            Err(fault) => Err(fault),
-        },
-        Err(fault) => Err(fault),
     }
 }
 

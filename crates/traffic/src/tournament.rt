@@ -33,7 +33,7 @@ pub(crate) struct Node {
 /// A contract sees the head of the stream, or none.
 impl Model for Node {
     ghost use Rattle.std.specs.Prelude.{◌≡◌, ◌≤◌, Option};
-    ghost use Rattle.traffic.specs.Kept.{head_kept, key_back, key_kept};
+    ghost use Rattle.traffic.specs.Head.{head_kept, key_back, key_kept};
     ghost use Rattle.traffic.specs.declared.tournament.Head.{Head};
     ghost use Rattle.traffic.specs.declared.tournament.TheConstants.{NEVER};
 

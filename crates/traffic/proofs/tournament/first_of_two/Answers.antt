@@ -1,6 +1,6 @@
 use Rattle.std.proofs.Common.{◌∙◌, ap}
 use Rattle.traffic.specs.Words.{first_of_two}
-use Rattle.traffic.specs.Kept.{head_kept}
+use Rattle.traffic.specs.Head.{head_kept}
 use Rattle.traffic.proofs.NodeLaws.{first_kept}
 use Rattle.traffic.proofs.tournament.first_of_two.Goals as goal
 
