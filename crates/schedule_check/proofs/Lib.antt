@@ -1,3 +1,4 @@
+pub mod AlertLaws
 pub mod ApartLaws
 pub mod ChangeLaws
 pub mod LineLaws

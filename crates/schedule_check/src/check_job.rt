@@ -2,6 +2,7 @@
 
 ghost use Rattle.std.specs.Prelude.{◌≡◌, IfErr};
 ghost use Rattle.octet_writer.specs.Buffered.{writer_contents};
+ghost use Rattle.schedule_check.specs.Alerts.{IsWatchedEnding};
 ghost use Rattle.schedule_check.specs.CheckEnd.{checks_given};
 ghost use Rattle.schedule_check.specs.Words.{whole_check, IsTeller, Teller, IsEnding, octets_of};
 
@@ -27,6 +28,8 @@ pub fn answer_check<A: Allocator, B: Allocator, R: Read, W: Write + Drop, E: Err
     ensures ending { let given = checks_given (octets_of words.entry.rate) (octets_of words.entry.mtu) (octets_of words.entry.map) (octets_of words.entry.frame) words.entry.windows words.entry.script in
         (tell : Teller) → IsTeller tell → IsEnding (whole_check tell) given
         (R.remaining reader.old) result.0 (writer_contents W.contents answers) (W.contents result.1) (E.contents errors.old) (E.contents errors.new) }
+    ensures watched { let given = checks_given (octets_of words.entry.rate) (octets_of words.entry.mtu) (octets_of words.entry.map) (octets_of words.entry.frame) words.entry.windows words.entry.script in
+        IsWatchedEnding H.alerted given (R.remaining reader.old) result.0 watch.old watch.new }
     ensures unread { let given = checks_given (octets_of words.entry.rate) (octets_of words.entry.mtu) (octets_of words.entry.map) (octets_of words.entry.frame) words.entry.windows words.entry.script in
         IfErr given (λ _. reader.new ≡ reader.old) }
 {

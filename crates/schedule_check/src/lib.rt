@@ -1,8 +1,8 @@
 //! What schedules promise, before anything runs: for each schedule command the classes that it keeps apart, and what a
 //! schedule gives each class.
 //!
-//! The definition is specs/Checked.antt, over specs/Apart.antt and specs/Windows.antt; the contracts of `check` and
-//! `answer_check` cite it.
+//! The definition is specs/Checked.antt, over specs/Apart.antt and specs/Windows.antt, and that of what who watches is
+//! told specs/Alerts.antt; the contracts of `check` and `answer_check` cite both.
 #![tactic(auto)]
 
 mod check_job;

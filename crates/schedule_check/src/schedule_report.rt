@@ -1,7 +1,9 @@
 //! What is reported of a schedule command.
 
-ghost use Rattle.std.specs.Prelude.{◌≡◌, ◌<◌, ◌≤◌, ◌+◌, ◌++◌, ℕ, List, None, Result};
-ghost use Rattle.schedule_check.specs.Words.{array_vec_len, apart_line, change_lines, class_count, class_word, classes_apart, itself_apart, some_line, verdict_lines, IsTeller, Teller, Writes, plan_asked, Command, plan_fault, IsReader, TcFault, CLASSES, words_of};
+ghost use Rattle.std.specs.Prelude.{◌≡◌, ◌<◌, ◌≤◌, ◌+◌, ◌++◌, ℕ, List, None, Ok, Result};
+ghost use Rattle.abstract_port.specs.declared.Command.TheVariants.{Replace};
+ghost use Rattle.schedule_check.specs.Alerts.{alert_of, first_never, line_wrong, never_opens, wrong_with};
+ghost use Rattle.schedule_check.specs.Words.{array_vec_len, apart_line, change_lines, class_count, class_word, classes_apart, itself_apart, some_line, verdict_lines, IsTeller, Teller, Writes, plan_asked, Command, plan_fault, IsReader, TcFault, CLASSES, words_of, alone, in_ps, open_total};
 ghost use Rattle.std.specs.List.{flat_map};
 
 use crate::refusals::{early_refusal, is_led_after, map_after};
@@ -89,26 +91,49 @@ pub fn put_apart<W: Write>(writer: &mut W, classes: &[u8]) -> Result<(), WriteFa
     }
 }
 
-/// Tells who watches of the first thing that is wrong with an accepted schedule: a new port refuses its map or its
-/// limits; or a priority leads to a class that it never opens.
-fn tell_wrong<H: Watch>(
-    settings: &CheckSettings,
-    number: u32,
-    line: &[u8],
-    change: &Change,
-    schedule: &Schedule,
-    watch: &mut H,
-) {
-    if let Some(why) = early_refusal(settings.mtu, settings.map, change) {
-        watch.command_failed(number, line, Failure::Refused(why));
-        return;
-    }
+/// Whether some priority leads to a class of this share of a cycle, which is never open.
+fn never_opens(settings: &CheckSettings, change: &Change, class: u8, share: u64) -> bool
+    requires { share ≡ open_total (alone (plan_asked change.now)) class (in_ps (plan_asked change.now).cycle) }
+    ensures { result ≡ never_opens settings.now change.now class }
+{
+    share == 0 && is_led_after(settings.map, change.map, class)
+}
+
+/// The first class that a schedule never opens, though some priority leads to it.
+fn first_never(settings: &CheckSettings, change: &Change, schedule: &Schedule) -> Option<u8>
+    requires { schedule.now ≡ plan_asked change.now }
+    ensures { result ≡ first_never settings.now change.now 8 0 }
+{
     let shares = shares_of(schedule);
     for class in 0..CLASSES as u8 {
-        if shares[usize::from(class)] == 0 && is_led_after(settings.map, change.map, class) {
-            watch.command_failed(number, line, Failure::NeverOpens(class));
-            return;
+        if never_opens(settings, change, class, shares[usize::from(class)]) {
+            return Some(class);
         }
+    }
+    None
+}
+
+/// The first thing that is wrong with an accepted schedule: a new port refuses its map or its limits; or a priority
+/// leads to a class that it never opens.
+fn wrong_with(settings: &CheckSettings, change: &Change, schedule: &Schedule) -> Option<Failure>
+    requires { schedule.now ≡ plan_asked change.now }
+    ensures { result ≡ wrong_with settings.now change.now }
+{
+    if let Some(why) = early_refusal(settings.mtu, settings.map, change) {
+        return Some(Failure::Refused(why));
+    }
+    match first_never(settings, change, schedule) {
+        None => None,
+        Some(class) => Some(Failure::NeverOpens(class)),
+    }
+}
+
+/// Calls who watches where this is wrong with the line of this number.
+fn tell_wrong<H: Watch>(number: u32, line: &[u8], wrong: Option<Failure>, watch: &mut H)
+    ensures { H.alerted (alert_of wrong) watch.old watch.new }
+{
+    if let Some(why) = wrong {
+        watch.command_failed(number, line, why);
     }
 }
 
@@ -139,8 +164,9 @@ fn put_change<W: Write, H: Watch>(
     change: &Change,
     watch: &mut H,
 ) -> Result<(), WriteFault>
-    ensures { (tell : Teller) → IsTeller tell →
+    ensures text { (tell : Teller) → IsTeller tell →
         Writes result (W.contents writer.old) (W.contents writer.new) (change_lines tell settings.now change.now) }
+    ensures alerts { H.alerted (alert_of (line_wrong settings.now (Ok (Replace change.now)))) watch.old watch.new }
 {
     let schedule = Schedule::new(
         &change.list,
@@ -151,7 +177,8 @@ fn put_change<W: Write, H: Watch>(
     );
     match schedule {
         Ok(schedule) => {
-            tell_wrong(settings, number, line, change, &schedule, watch);
+            let wrong = wrong_with(settings, change, &schedule);
+            tell_wrong(number, line, wrong, watch);
             put_schedule(writer, settings, change, &schedule)
         }
         Err(fault) => {
@@ -171,8 +198,9 @@ fn put_verdict<W: Write, H: Watch>(
     read: Result<Command, TcFault>,
     watch: &mut H,
 ) -> Result<(), WriteFault>
-    ensures { (tell : Teller) → IsTeller tell →
+    ensures text { (tell : Teller) → IsTeller tell →
         Writes result (W.contents writer.old) (W.contents writer.new) (verdict_lines tell settings.now read) }
+    ensures alerts { H.alerted (alert_of (line_wrong settings.now read)) watch.old watch.new }
 {
     match read {
         Ok(Command::Replace(change)) => put_change(writer, settings, number, line, &change, watch),
@@ -194,8 +222,10 @@ pub(crate) fn put_line<W: Write, H: Watch>(
     line: &[u8],
     watch: &mut H,
 ) -> Result<(), WriteFault>
-    ensures { (tell : Teller) → IsTeller tell → (read : List (List ℕ) → Result Command TcFault) → IsReader read →
+    ensures text { (tell : Teller) → IsTeller tell → (read : List (List ℕ) → Result Command TcFault) → IsReader read →
         Writes result (W.contents writer.old) (W.contents writer.new) (verdict_lines tell settings.now (read (words_of line.now))) }
+    ensures alerts { (read : List (List ℕ) → Result Command TcFault) → IsReader read →
+        H.alerted (alert_of (line_wrong settings.now (read (words_of line.now)))) watch.old watch.new }
 {
     put_verdict(writer, settings, number, line, read_tc(line), watch)
 }

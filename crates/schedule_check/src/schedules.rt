@@ -1,8 +1,10 @@
 //! The lines of schedule commands, one after another.
 
 ghost use Rattle.std.specs.Prelude.{◌≡◌, ℕ, List, Result, IfSome};
+ghost use Rattle.schedule_check.specs.Alerts.{IsWatchedCheck, alerts_in};
 ghost use Rattle.schedule_check.specs.Words.{Command, verdict_lines, checked_in, checked_of, is_command, IsTeller, Teller, current_number, script_left, RunsOut, bad_line, IsReader, TcFault, words_of};
 ghost use Rattle.job.specs.declared.fault.Fault.TheVariants as Faults;
+ghost use Rattle.script.specs.Alerts.{Watched};
 
 use crate::schedule_report::put_line;
 use crate::settings::CheckSettings;
@@ -52,9 +54,11 @@ fn check_lines<A: Allocator, R: Read + Drop, W: Write, H: Watch>(
     settings: &CheckSettings,
     watch: &mut H,
 ) -> Result<(), RunFault>
-    ensures { (tell : Teller) → IsTeller tell → (read : List (List ℕ) → Result Command TcFault) → IsReader read
+    ensures text { (tell : Teller) → IsTeller tell → (read : List (List ℕ) → Result Command TcFault) → IsReader read
         → IfSome (script_left R.remaining lines.old) (λ script.
         RunsOut result (W.contents writer.old) (W.contents writer.new) (checked_in settings.now.script read (verdict_lines tell settings.now) script)) }
+    ensures alerts { (read : List (List ℕ) → Result Command TcFault) → IsReader read → IfSome (script_left R.remaining lines.old) (λ script.
+        Watched H.alerted (alerts_in settings.now read script) result watch.old watch.new) }
 {
     'lines: while next_line::<BadLine, _, _, _>(lines, writer)? {
         let line = lines.line();
@@ -88,9 +92,10 @@ pub fn check<A: Allocator, R: Read + Drop, W: Write, H: Watch>(
     settings: CheckSettings,
     watch: &mut H,
 ) -> Result<(), RunFault>
-    ensures { (tell : Teller) → IsTeller tell → (read : List (List ℕ) → Result Command TcFault) → IsReader read
+    ensures text { (tell : Teller) → IsTeller tell → (read : List (List ℕ) → Result Command TcFault) → IsReader read
         → IfSome (R.remaining reader) (λ input.
         RunsOut result (W.contents writer.old) (W.contents writer.new) (checked_of settings.script read (verdict_lines tell settings) input)) }
+    ensures watched { IsWatchedCheck H.alerted settings (R.remaining reader) result watch.old watch.new }
 {
     let mut lines = LineReader::new(&alloc, reader)?;
     check_lines(&mut lines, writer, &settings, watch)
