@@ -83,7 +83,7 @@ are_least may flows every most waits bounds some all come count greatest least =
       reached = λ i flow b place told.
           reached_ever may d above (flows_of flows) periods come.from every most come.recurs _ first come.sent waits noted i b.greatest flow place
           (subst (λ ws. slice_get ws i ≡ Some b.greatest) same
-              (slice_get-map (λ (x : Bound). x.greatest) bounds i ∙ ap (λ o. option_map (λ (x : Bound). x.greatest) o) told));
+          (slice_get-map (λ (x : Bound). x.greatest) bounds i ∙ ap (λ o. option_map (λ (x : Bound). x.greatest) o) told));
       least = λ i flow b place told.
           let there = flow_there flows i flow place in
           let is = get_or_from_slice_get bounds i b (record { least = 0; greatest = 0 }) told in

@@ -197,8 +197,7 @@ module _ (may : ℕ → ℕ → Bool) (d : ℕ) where
             let there = ap (must_before flows) at in
             let w = free_on may d flows from every periods r l.moment l.free le l.is in
             let count : k - must_before flows l.moment ≡ k + on.more - must_before flows (l.moment + every) = omega (arith, must) in
-            let start = slot_from may d (max l.moment l.free) (k - must_before flows l.moment) s l.slot in
-            (
+            let start = slot_from may d (max l.moment l.free) (k - must_before flows l.moment) s l.slot in (
               record {
                 moment = l.moment + every;
                 free = w.0;

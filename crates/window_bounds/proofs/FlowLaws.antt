@@ -17,10 +17,10 @@ use Rattle.window_bounds.proofs.NoteLaws.{flow_there}
 pub are_talkers : (flows : List JitteredFlow) → All IsFlow flows → All IsTalker (talkers_of flows)
 are_talkers flows all = All-map IsTalker talker_of flows
     (λ k f less.
-        let is = all k f less in
-        let some = is.some in
-        let order = is.order in
-        record { some = omega (arith, some, order); need = is.longest; above = is.above; period = is.period; jitter = is.jitter })
+    let is = all k f less in
+    let some = is.some in
+    let order = is.order in
+    record { some = omega (arith, some, order); need = is.longest; above = is.above; period = is.period; jitter = is.jitter })
 
 -- ---- the longest need
 
@@ -66,8 +66,7 @@ need_all flows i need total done h = (let none = ap longest_need (drop_of_length
 pub are_periodic : (flows : List JitteredFlow) → All IsFlow flows → ArePeriodic (longest_need flows) (flows_of flows)
 are_periodic flows all i flow e =
     let there = flow_there flows i flow e in
-    let f = all i (record { offset = 0; period = 0; jitter = 0; shortest = 0; longest = 0 }) there.0 in
-    (
+    let f = all i (record { offset = 0; period = 0; jitter = 0; shortest = 0; longest = 0 }) there.0 in (
       subst (λ (g : PeriodicFlow). 0 < g.period) there.1 f.above,
       subst (λ (g : PeriodicFlow). g.longest ≤ longest_need flows) there.1 (need_at flows i there.0),
     )

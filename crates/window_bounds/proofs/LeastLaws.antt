@@ -69,8 +69,7 @@ module _ (may : ℕ → ℕ → Bool) (cycle : ℕ) (flow : PeriodicFlow) where
       let at : s ≡ phase cycle flow.offset flow.period 0 + (s - phase cycle flow.offset flow.period 0) = omega (arith, from) in
       record {
         each = λ m less.
-            let e : 0 ≡ m = omega (arith, less) in
-            (
+            let e : 0 ≡ m = omega (arith, less) in (
               s,
               subst (λ k. IsFirst may flow.shortest (phase cycle flow.offset flow.period k) s) e first,
               (let p = ap (λ k. phase cycle flow.offset flow.period k) e in omega (arith, p, from)),
@@ -86,8 +85,7 @@ module _ (may : ℕ → ℕ → Bool) (cycle : ℕ) (flow : PeriodicFlow) where
         each = λ m less. elim (cases_lt m n) [
           | inl before ↦ (let w = h.each m before in let low = w.2 in (w.0, w.1, omega (arith, low, is)))
           | inr here ↦
-              let e : n ≡ m = omega (arith, here, less) in
-              (
+              let e : n ≡ m = omega (arith, here, less) in (
                 s,
                 subst (λ k. IsFirst may flow.shortest (phase cycle flow.offset flow.period k) s) e first,
                 (let p = ap (λ k. phase cycle flow.offset flow.period k) e in omega (arith, p, from, is)),
@@ -98,8 +96,7 @@ module _ (may : ℕ → ℕ → Bool) (cycle : ℕ) (flow : PeriodicFlow) where
               let at : s ≡ phase cycle flow.offset flow.period n + new = omega (arith, from, is, less) in
               (n, subst (IsFirst may flow.shortest (phase cycle flow.offset flow.period n)) at first)
           | inr fits ↦
-              let same : least ≡ new = omega (arith, is, fits) in
-              (
+              let same : least ≡ new = omega (arith, is, fits) in (
                 h.reached.0,
                 subst (λ k. IsFirst may flow.shortest (phase cycle flow.offset flow.period h.reached.0)
                     (phase cycle flow.offset flow.period h.reached.0 + k)) same h.reached.1,
@@ -116,8 +113,7 @@ module _ (may : ℕ → ℕ → Bool) (cycle : ℕ) (above : 0 < cycle) (again :
       let e : ℕ = flow.offset + flow.period * m in
       let k : ℕ = cycle * (e / cycle) in
       let parts = div-add-mod e cycle in
-      let at : phase cycle flow.offset flow.period m + k ≡ e = omega (arith, parts) in
-      (
+      let at : phase cycle flow.offset flow.period m + k ≡ e = omega (arith, parts) in (
         k,
         subst (λ u. IsFirst may flow.shortest u (s + k)) at
             (first_later may flow.shortest k (phase cycle flow.offset flow.period m) s (again (e / cycle)) first),

@@ -149,8 +149,7 @@ module _ (may : ℕ → ℕ → Bool) (d limit : ℕ) (flows : List JitteredFlow
                 let w = h.within (k - old.sent) (omega (arith, less, here)) in
                 let can = can_is flows w.0 in
                 let few = w.2 in
-                let slot = subst (λ u. IsSlot may d u (k - old.sent) w.0) from w.1 in
-                (
+                let slot = subst (λ u. IsSlot may d u (k - old.sent) w.0) from w.1 in (
                   w.0,
                   subst (λ n. IsLateFrame may d (flows_of flows) n w.0) at (frame_at (k - old.sent) w.0 (omega (arith, less, here)) slot),
                   omega (arith, few, can, at, same_sent),

@@ -110,8 +110,7 @@ module _ (plan : Plan) (class d limit : â„•) (flows : List JitteredFlow) (t : â„
   undone Long is =
       let can = can_is flows is.1 in
       let more = is.4 in
-      let sent = h.sent in
-      (
+      let sent = h.sent in (
         old.sent + is.0,
         is.1,
         frame_at may d limit flows periods t old h.run due h.some h.count is.0 is.1 is.2
@@ -135,7 +134,7 @@ module _ (plan : Plan) (class d limit : â„•) (flows : List JitteredFlow) (t : â„
         let was = (h.run).sent in
         let same = h.sent in
         late_by (due + is.0) is.1 (omega (arith, less, count, was, same, many))
-            (behind_both may d begun.free due is.0 new.free is.1 free is.3) is.4
+        (behind_both may d begun.free due is.0 new.free is.1 free is.3) is.4
     unsent Long is = absurd is
     unsent Overloaded is = absurd is
     unsent Memory is = absurd is

@@ -74,10 +74,10 @@ module _ (flows : List JitteredFlow) (all : All IsFlow flows) (u t : ℕ) (le : 
       let none : JitteredFlow = record { offset = 0; period = 0; jitter = 0; shortest = 0; longest = 0 } in
       are ∙ idle_from (map late_beat flows) u t (λ k d less. (fine_late flows all k d less).above) le
       (λ i less.
-          let many = length-map flows late_beat in
-          let inside : i < length flows = omega (arith, less, many) in
-          let at = get_or-map late_beat flows i none (record { next = 0; period = 0 }) inside in
-          subst (λ (b : Beat). t ≤ (from_on u b).next) (sym at) (idle_at i inside))
+      let many = length-map flows late_beat in
+      let inside : i < length flows = omega (arith, less, many) in
+      let at = get_or-map late_beat flows i none (record { next = 0; period = 0 }) inside in
+      subst (λ (b : Beat). t ≤ (from_on u b).next) (sym at) (idle_at i inside))
 
   pub must_idle : must_before (flows_of flows) t ≡ must_before (flows_of flows) u
   must_idle = sum flows (λ i less. same_before i less)
@@ -245,8 +245,7 @@ whole_of flows cycle from every all is begun i flow place =
     let period = ap (λ (x : Talker). x.period) at in
     let mine : every % f.period ≡ 0 = subst (λ p. every % p ≡ 0) period none in
     let whole = div-add-mod every f.period in
-    let turned = ap (λ (g : PeriodicFlow). g.period) there.1 in
-    (
+    let turned = ap (λ (g : PeriodicFlow). g.period) there.1 in (
       begun i flow place,
       (every / f.period, subst (λ p. every ≡ p * (every / f.period)) turned (omega (arith, whole, mine))),
     )

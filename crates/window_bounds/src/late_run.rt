@@ -47,15 +47,19 @@ pub fn send(
     requires aheads { All IsBeat aheads.old }
     requires few { run.sent ≤ 2 ^ 64 }
     ensures sent { IfOk result (λ next. next.sent ≡ run.sent + due) }
-    ensures free { IfOk result (λ next. IsFreeBehind (may_by schedule.now class) need run.free due next.free) }
+    ensures free { IfOk result (λ next.
+        IsFreeBehind (may_by schedule.now class) need run.free due next.free) }
     ensures soon { IfOk result (λ next. 0 < due → next.free ≤ 2 ^ 80) }
     ensures stood { IfOk result (λ next. StoodBy schedule.now 0 None next.free position.new) }
     ensures fine { All IsBeat aheads.new }
-    ensures come { IfOk result (λ next. (beats : List Beat) → All IsBeat beats → AreAtBy beats run.free aheads.old run.come
-        → AreAtBy beats next.free aheads.new next.come × HasSent (may_by schedule.now class) need run.free due limit beats run next) }
+    ensures come { IfOk result (λ next. (beats : List Beat) → All IsBeat beats
+        → AreAtBy beats run.free aheads.old run.come
+        → AreAtBy beats next.free aheads.new next.come
+        × HasSent (may_by schedule.now class) need run.free due limit beats run next) }
     ensures few { IfOk result (λ next. 0 < due → next.come ≤ limit) }
     ensures small { IfOk result (λ next. run.most ≤ limit → next.most ≤ limit) }
-    ensures why { IfErr result (λ why. (beats : List Beat) → All IsBeat beats → AreAtBy beats run.free aheads.old run.come
+    ensures why { IfErr result (λ why. (beats : List Beat) → All IsBeat beats
+        → AreAtBy beats run.free aheads.old run.come
         → IsUndone schedule.now class need run.free due limit beats why) }
 {
     let mut next = run;
@@ -91,7 +95,8 @@ pub fn free_behind(
     requires stood { StoodBy schedule.now 0 None free position }
     requires class { class < CLASSES }
     requires need { (0 < need) × (need ≤ greatest_moment) }
-    ensures free { IfOk result (λ later. IsFreeBehind (may_by schedule.now class) need free more later) }
+    ensures free { IfOk result (λ later.
+        IsFreeBehind (may_by schedule.now class) need free more later) }
     ensures soon { IfOk result (λ later. free ≤ 2 ^ 80 → later ≤ 2 ^ 80) }
     ensures why { IfErr result (IsUnsent schedule.now class need free more) }
 {

@@ -75,12 +75,15 @@ where
     requires flows { All IsFlow flows.now }
     requires waits { length waits.now ≡ length flows.now }
     requires every { IsCommonTime (talkers_of flows.now) (in_ps schedule.now.cycle) every }
-    ensures count { IfOk result (λ found. IfSome found (λ bounds. length bounds.items ≡ length flows.now)) }
-    ensures greatest { IfOk result (λ found. IfSome found (λ bounds. (i : ℕ) → i < length flows.now
-        → (bound_at bounds.items i).greatest ≡ slice_index waits.now i)) }
+    ensures count { IfOk result (λ found. IfSome found (λ bounds.
+        length bounds.items ≡ length flows.now)) }
+    ensures greatest { IfOk result (λ found. IfSome found (λ bounds.
+        (i : ℕ) → i < length flows.now → (bound_at bounds.items i).greatest ≡ slice_index waits.now i)) }
     ensures least { IfOk result (λ found. IfSome found (λ bounds. (i : ℕ) → i < length flows.now
-        → IsLeastWait (may_by schedule.now class) (periodic_of (jittered_at flows.now i)) (bound_at bounds.items i).least)) }
-    ensures stuck { result ≡ Ok None → (i : ℕ) × (i < length flows.now) × IsStuck schedule.now class (jittered_at flows.now i).shortest }
+        → IsLeastWait (may_by schedule.now class) (periodic_of (jittered_at flows.now i))
+        (bound_at bounds.items i).least)) }
+    ensures stuck { result ≡ Ok None → (i : ℕ) × (i < length flows.now)
+        × IsStuck schedule.now class (jittered_at flows.now i).shortest }
 {
     let mut bounds = Vec::with_capacity(alloc.clone()?, flows.len())?;
     for i in 0..flows.len() {

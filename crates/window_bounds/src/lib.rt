@@ -2,7 +2,7 @@
 //! the least and the greatest time from a frame's earliest moment to its start, and the most frames that ever wait at
 //! once. All are exact: the greatest and the most are the least that hold.
 //!
-//! What is answered is that of `window_bounds`: specs/Answer.antt, or else specs/Unbound.antt.
+//! What is answered is that of `window_bounds`: specs/Least.antt, or else specs/Unbound.antt.
 #![tactic(auto)]
 
 mod beats;
@@ -15,10 +15,9 @@ mod step;
 mod walk;
 mod whole;
 
-pub use whole::window_bounds;
-
 use delay_bounds::Bound;
 use std::alloc::{Allocator, Global};
+pub use whole::window_bounds;
 
 /// Frames of one sender, one each period: frame n comes at `offset` and n periods, or up to the jitter later. Times are
 /// in picoseconds.

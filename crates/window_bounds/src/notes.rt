@@ -48,19 +48,15 @@ fn longer(wait: u128, flow: JitteredFlow, t: u128, start: u128) -> u128
 }
 
 /// Notes the start of those frames whose latest moment is `t`.
-pub fn note(
-    waits: &mut [u128],
-    lates: &[Beat],
-    flows: &[JitteredFlow],
-    t: u128,
-    start: u128,
-)
+pub fn note(waits: &mut [u128], lates: &[Beat], flows: &[JitteredFlow], t: u128, start: u128)
     requires flows { All IsFlow flows.now }
-    requires places { (length lates.now ≡ length flows.now) × (length waits.old ≡ length flows.now) }
+    requires lates { length lates.now ≡ length flows.now }
+    requires waits { length waits.old ≡ length flows.now }
     requires order { t ≤ start }
     requires soon { start ≤ 2 ^ 80 }
     ensures count { length waits.new ≡ length waits.old }
-    ensures each { (i : ℕ) → i < length waits.old → slice_index waits.new i ≡ noted_at lates.now flows.now t start i (slice_index waits.old i) }
+    ensures each { (i : ℕ) → i < length waits.old → slice_index waits.new i
+        ≡ noted_at lates.now flows.now t start i (slice_index waits.old i) }
 {
     for i in 0..lates.len() {
         if lates[i].next == t {

@@ -29,10 +29,7 @@ fn talker_of(flow: JitteredFlow) -> Talker
 }
 
 /// Flows, of which no more is known than how far their frames are apart.
-fn talkers_of<A: Allocator>(
-    alloc: &A,
-    flows: &[JitteredFlow],
-) -> Result<Vec<Talker, A>, AllocError>
+fn talkers_of<A: Allocator>(alloc: &A, flows: &[JitteredFlow]) -> Result<Vec<Talker, A>, AllocError>
 where
     A: Clone,
     ensures { IfOk result (λ talkers. talkers.items ≡ talkers_of flows.now) }
@@ -60,7 +57,8 @@ where
     requires class { class < CLASSES }
     requires need { (0 < need) × (need ≤ greatest_moment) }
     requires flows { All IsFlow flows.now }
-    ensures time { IfOk result (λ time. IfSome time (IsCommonTime (talkers_of flows.now) (in_ps schedule.now.cycle))) }
+    ensures time { IfOk result (λ time.
+        IfSome time (IsCommonTime (talkers_of flows.now) (in_ps schedule.now.cycle))) }
     ensures why { IfErr result (IsHopeless schedule.now class need flows.now) }
 {
     let Ok(talkers) = talkers_of(alloc, flows) else {

@@ -40,10 +40,13 @@ pub fn step(
     requires class { class < CLASSES }
     requires need { (0 < need) × (need ≤ greatest_moment) }
     requires flows { All IsFlow flows.now }
-    requires walked { IsWalkedTo (may_by schedule.now class) need limit flows.now t lates.old earlies.old aheads.old can.old run waits.old }
+    requires walked { IsWalkedTo (may_by schedule.now class) need limit flows.now t
+        lates.old earlies.old aheads.old can.old run waits.old }
     requires one { (i : ℕ) × (i < length lates.old) × ((beat_at lates.old i).next ≡ t) }
     requires least { (i : ℕ) → i < length lates.old → t ≤ (beat_at lates.old i).next }
-    ensures walked { IfOk result (λ next. IsWalkedTo (may_by schedule.now class) need limit flows.now (t + 1) lates.new earlies.new aheads.new can.new next waits.new) }
+    ensures walked { IfOk result (λ next.
+        IsWalkedTo (may_by schedule.now class) need limit flows.now (t + 1)
+        lates.new earlies.new aheads.new can.new next waits.new) }
     ensures stood { IfOk result (λ next. StoodBy schedule.now 0 None next.free position.new) }
     ensures more { IfOk result (λ next. run.sent < next.sent) }
     ensures why { IfErr result (IsEnded schedule.now class need (flows_of flows.now) limit) }
@@ -55,9 +58,7 @@ pub fn step(
         most: run.most,
     };
     let due = due_at(lates, t);
-    let next = match send(
-        schedule, position, class, need, aheads, begun, due, limit,
-    ) {
+    let next = match send(schedule, position, class, need, aheads, begun, due, limit) {
         Ok(next) => next,
         Err(why) => return Err(why),
     };

@@ -102,7 +102,9 @@ pub fn walk(
     requires earlies { earlies.old ≡ map early_beat flows.now }
     requires aheads { aheads.old ≡ map early_beat flows.now }
     requires waits { waits.old ≡ replicate (length flows.now) 0 }
-    ensures come { IfOk result (λ seen. HasCome (may_by schedule.now class) need (flows_of flows.now) seen.every seen.most waits.new) }
+    ensures come { IfOk result (λ seen.
+        HasCome (may_by schedule.now class) need (flows_of flows.now)
+        seen.every seen.most waits.new) }
     ensures time { IfOk result (λ seen. time ≡ Some seen.every) }
     ensures why { IfErr result (IsEnded schedule.now class need (flows_of flows.now) limit) }
 {

@@ -29,7 +29,23 @@ fn longest_need(flows: &[JitteredFlow]) -> u128
     need
 }
 
-/// The bounds of the flows of a class that a schedule keeps apart, for ever.
+/// The bounds of the flows of a class that a schedule keeps apart, for ever: the least and the greatest time from the
+/// earliest moment of each flow's frames (its offset and whole periods) to their starts, and the greatest number of
+/// frames that ever wait at once. Each frame is taken to need the wire for as long as the longest of all, but for the
+/// least time, where it is as short as one of its flow may be. All are exact, by the late run: that in which each frame
+/// comes as late as it may.
+///
+/// The frames are walked by their latest moments, until the late run is as it was some cycles before: from there on it
+/// goes on so for ever. That takes time for as many frames as come in one hyperperiod, mostly, and memory for each flow
+/// alone.
+///
+/// # Errors
+/// `Overloaded`: in the long run more frames come than the windows take. `Stuck`: no window takes the longest frame.
+/// `Long`: more than `limit` frames may have come by the start of some frame of the late run, and it was not yet as it
+/// was. `Late`: frames that may have come by some moment keep the wire until behind `MAX_MOMENT`. `Memory`: out of
+/// memory.
+///
+/// IEEE Std 802.1Q-2018, 8.6.8.4 and 8.6.9. `any_traffic::periodic_windows` says what the bounds are worth in every run.
 pub fn window_bounds<A: Allocator>(
     alloc: &A,
     schedule: &Schedule,
@@ -42,7 +58,9 @@ where
     requires class { class < CLASSES }
     requires some { 0 < length flows.now }
     requires flows { All IsFlow flows.now }
-    ensures least { IfOk result (λ b. AreLeast (may_by schedule.now class) (longest_need flows.now) (flows_of flows.now) b.bounds.items b.most) }
+    ensures least { IfOk result (λ b.
+        AreLeast (may_by schedule.now class) (longest_need flows.now) (flows_of flows.now)
+        b.bounds.items b.most) }
     ensures why { IfErr result (IsUnbound schedule.now class flows.now limit) }
 {
     let _entries = schedule.len();

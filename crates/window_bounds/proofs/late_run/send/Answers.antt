@@ -21,8 +21,7 @@ returns-then-come-from-clause-why c = λ beats fine at.
     fine (omega (arith, from)) (inv.come beats fine at).0 c.pass.ensures.beats c.pass.ensures.count c.saturating_add-come.ensures in
     let come = here.come in
     let more = c.if-come-from.true in
-    let is = c.from.ensures in
-    (
+    let is = c.from.ensures in (
       c.loop-i._i,
       c.in-Ok.at,
       listed,
@@ -79,8 +78,7 @@ returns-clause-come c = λ beats fine here.
     let old = inv.come beats fine here in
     let end = c.loop-i.auto._i-end in
     let done = c.loop-i-test.false in
-    let e : c.loop-i._i ≡ c.args.due = omega (arith, end, done) in
-    (
+    let e : c.loop-i._i ≡ c.args.due = omega (arith, end, done) in (
       old.0,
       subst (λ n. HasSent (may_by c.args.schedule.now c.args.class) c.args.need c.args.run.free n c.args.limit beats c.args.run c.loop-i.next) e
           old.1,

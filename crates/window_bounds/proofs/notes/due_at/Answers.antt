@@ -7,7 +7,7 @@ use Rattle.window_bounds.proofs.notes.due_at.Goals as goal
 use Rattle.window_bounds.proofs.notes.due_at.Goals.{then-lates-i, else-lates-i}
 
 after : (next t : ℕ) → t ≤ next → (next ≡ t → ⊥) → t + 1 ≤ next
-after next t le apart = elim (cases_lt t next) [ | inl less ↦ omega (arith, less) | inr more ↦ absurd (apart (omega (arith, le, more))) ]
+after next t le apart = elim (cases_lt t next) [ inl less ↦ omega (arith, less) | inr more ↦ absurd (apart (omega (arith, le, more))) ]
 
 pub loop-i-preserved : goal.loop-i-preserved
 loop-i-preserved c =
