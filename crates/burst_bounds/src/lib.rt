@@ -8,9 +8,9 @@ mod arrivals;
 mod busy;
 pub mod laws;
 mod moments;
-mod rate;
-mod repeats;
-mod slots;
+pub mod rate;
+pub mod repeats;
+pub mod slots;
 mod walk;
 
 pub use walk::burst_bounds;

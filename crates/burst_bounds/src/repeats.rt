@@ -42,7 +42,7 @@ fn common_multiple(a: u128, b: u128) -> Option<u128>
 }
 
 /// Whole cycles and whole periods of each talker; none where that is too long to be looked at.
-fn common_time(talkers: &[Talker], cycle: u128) -> Option<u128>
+pub fn common_time(talkers: &[Talker], cycle: u128) -> Option<u128>
     requires talkers { All IsTalker talkers.now }
     requires cycle { (0 < cycle) × (cycle < 2 ^ 127) }
     ensures { IfSome result (IsCommonTime talkers.now cycle) }

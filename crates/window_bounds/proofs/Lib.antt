@@ -1,0 +1,10 @@
+pub mod BeatLaws
+pub mod SendLaws
+pub mod RunLaws
+pub mod NoteLaws
+pub mod StepLaws
+pub mod WalkLaws
+pub mod LeastLaws
+pub mod FlowLaws
+pub mod EverLaws
+pub mod AnswerLaws

@@ -1,0 +1,78 @@
+-- Frames that are sent one behind another.
+use Rattle.std.proofs.Common.{◌≡◌, ◌<◌, ◌≤◌, ℕ, zero, suc, ◌+◌, ◌-◌, ◌^◌, max, Bool, inl, inr, All, List, refl, sym, ap, ◌∙◌, subst, arith}
+use Rattle.std.proofs.lemmas.Bool.{cases_lt}
+use Rattle.separation.specs.Served.{IsFirst}
+use Rattle.any_traffic.specs.Slots.{IsSlot}
+use Rattle.burst_bounds.proofs.SlotLaws.{slot_then}
+use Rattle.window_bounds.specs.Beats.{AreAt, AreAtBy, IsBeat, all_before, all_from, capped}
+use Rattle.window_bounds.specs.Slots.{HasSent, IsFreeBehind}
+use Rattle.window_bounds.specs.declared.beats.Beat.{Beat}
+use Rattle.window_bounds.specs.declared.late_run.Run.{Run}
+use Rattle.window_bounds.proofs.BeatLaws.{HaveBeats, before_twice, from_twice}
+
+pub periods_of : (beats : List Beat) → All IsBeat beats → HaveBeats beats
+periods_of beats all = λ k d less. (all k d less).above
+
+module _ (may : ℕ → ℕ → Bool) (d from : ℕ) where
+  pub none_sent : IsFreeBehind may d from 0 from
+  none_sent = inl (refl, refl)
+
+  -- the next slot
+  pub slot_of : (n free s : ℕ) → IsFreeBehind may d from n free → IsFirst may d free s → IsSlot may d from n s
+  slot_of n free s (inl none) first = subst (λ k. IsSlot may d from k s) (sym none.0) (subst (λ k. IsFirst may d k s) none.1 first)
+  slot_of n free s (inr some) first = subst (λ k. IsSlot may d from k s) (sym some.2)
+      (slot_then may d from some.0 some.1 s some.3 (subst (λ k. IsFirst may d k s) some.4 first))
+
+  pub one_more : (n free s : ℕ) → IsFreeBehind may d from n free → IsFirst may d free s → IsFreeBehind may d from (n + 1) (s + d)
+  one_more n free s h first = inr (n, s, omega arith, slot_of n free s h first, refl)
+
+  -- one more, by what is known of its start
+  pub sent_next : (n limit : ℕ) (beats : List Beat) (old mid new : Run) (s : ℕ) → HasSent may d from n limit beats old mid → IsSlot may d from n s
+      → mid.sent ≡ old.sent + n
+      → new.most ≡ max (all_before beats (s + 1) - mid.sent) mid.most → all_before beats (s + 1) ≤ limit
+      → HasSent may d from (n + 1) limit beats old new
+  sent_next n limit beats old mid new s h slot sent most all =
+      let grown = h.grown in
+      record {
+        within = λ j less. elim (cases_lt j n) [
+          | inl before ↦
+              let w = h.within j before in
+              let few = w.2 in
+              (w.0, w.1, omega (arith, few, most), w.3)
+          | inr here ↦
+              let e : n ≡ j = omega (arith, here, less) in
+              (s, subst (λ k. IsSlot may d from k s) e slot, omega (arith, e, most, sent), all)
+        ];
+        grown = omega (arith, grown, most);
+        reached = elim (cases_lt mid.most (all_before beats (s + 1) - mid.sent)) [
+          | inl more ↦ inr (n, s, omega arith, slot, omega (arith, more, most, sent))
+          | inr fits ↦
+              let same : new.most ≡ mid.most = omega (arith, fits, most) in
+              elim h.reached [
+                | inl kept ↦ inl (omega (arith, same, kept))
+                | inr r ↦
+                    let less = r.2 in
+                    let is = r.4 in
+                    inr (r.0, r.1, omega (arith, less), r.3, omega (arith, is, same))
+              ]
+        ];
+      }
+
+  pub sent_none : (limit : ℕ) (beats : List Beat) (run : Run) → HasSent may d from 0 limit beats run run
+  sent_none limit beats run = record { within = λ j less. absurd (omega (arith, less)); grown = omega arith; reached = inl refl }
+
+-- beats that go past a moment which is not before them
+pub at_next : (beats now next : List Beat) (t s count passed total : ℕ) → All IsBeat beats → t ≤ s + 1 → AreAtBy beats t now count
+    → next ≡ all_from (s + 1) now → passed ≡ capped (all_before now (s + 1)) → total ≡ capped (count + passed) → AreAt beats (s + 1) next total
+at_next beats now next t s count passed total fine le at is many sum =
+    let u : ℕ = at.0 in
+    let before = at.1 in
+    let here = at.2 in
+    let come = here.come in
+    let le' : u ≤ s + 1 = omega (arith, before, le) in
+    let all = before_twice u (s + 1) beats (periods_of beats fine) le' in
+    let seen = ap (λ (xs : List Beat). all_before xs (s + 1)) here.are in
+    record {
+      are = is ∙ (ap (all_from (s + 1)) here.are ∙ from_twice u (s + 1) beats (periods_of beats fine) le');
+      come = omega (arith, all, seen, many, sum, come);
+    }
