@@ -265,12 +265,12 @@ module _ (read : List (List ℕ) → Result Command TcFault) (s : BoundsSettings
 
 module _ (read : List (List ℕ) → Result Command TcFault) (s : BoundsSettings) where
   -- the table is read
-  pub bounded_with : (r : Result (Unit {0}) (Fault BoundsInput)) (counted : FrameCount) (table script : Option Script) (streams : List Stream) (old new : Option (List ℕ))
-      → IfSome table (λ lines. ReadsTable (Ok counted) (table_by periodic lines) [] streams) → IfSome script (λ lines. RunsLines r read s streams lines old new)
+  pub bounded_with : (r : Result (Unit {0}) (Fault BoundsInput)) (table script : Option Script) (streams : List Stream) (old new : Option (List ℕ))
+      → IfSome table (λ lines. ((table_by periodic lines).fault ≡ None) × (streams ≡ [] ++ (table_by periodic lines).streams)) → IfSome script (λ lines. RunsLines r read s streams lines old new)
       → IfSome table (λ lines. IfSome script (λ others. IsBounded (may_stop r) read s (table_by periodic lines) others (Runs r old new)))
-  bounded_with r counted None script streams old new h w = tt
-  bounded_with r counted (Some lines) None streams old new h w = tt
-  bounded_with r counted (Some lines) (Some others) streams old new h w =
+  bounded_with r None script streams old new h w = tt
+  bounded_with r (Some lines) None streams old new h w = tt
+  bounded_with r (Some lines) (Some others) streams old new h w =
       let table = table_by periodic lines in
       let same : streams ≡ table.streams = h.1 in
       let w : RunsLines r read s table.streams others old new = subst (λ (xs : List Stream). RunsLines r read s xs others old new) same w in

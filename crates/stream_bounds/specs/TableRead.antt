@@ -13,6 +13,7 @@ use Rattle.stream_bounds.specs.Verdicts.{ClassAnswer}
 use Rattle.stream_bounds.specs.declared.faults.Answered.{Answered}
 use Rattle.stream_bounds.specs.declared.settings.BoundsSettings.{BoundsSettings}
 use Rattle.tc_reader.specs.declared.fault.TcFault.{TcFault}
+use Rattle.traffic.specs.declared.table.Stream.{Stream}
 use Rattle.delay_bounds.specs.Bounded.{Answer}
 use Rattle.delay_bounds.specs.declared.Bounded.{Bounded}
 use Rattle.delay_bounds.specs.declared.Unbound.{Unbound}
