@@ -17,9 +17,17 @@ use Rattle.burst_bounds.specs.declared.Bounds.{Bounds}
 use Rattle.burst_bounds.specs.declared.Talker.{Talker}
 use Rattle.burst_bounds.specs.declared.Unbound.{Unbound}
 use Rattle.burst_bounds.specs.declared.Unbound.TheVariants.{Overloaded, Stuck, Long, Memory}
+use Rattle.delay_bounds.specs.Walk.{may_by}
 use Rattle.gate_list.specs.Gate.{Plan}
-use Rattle.stream_bounds.specs.Classes.{most_sdu, talker_of}
-use Rattle.stream_bounds.specs.Verdicts.{AreClassAnswers, ClassAnswer, IsBurst, IsBurstAnswer, burst_answer, burst_limit}
+use Rattle.window_bounds.specs.Flows.{flows_of as flows_with_windows, longest_need as longest_of}
+use Rattle.window_bounds.specs.Least.{AreLeast as AreLeastWindows}
+use Rattle.window_bounds.specs.Unbound.{IsUnbound as IsUnboundWindows}
+use Rattle.window_bounds.specs.declared.Bounded.{Bounded as Windows}
+use Rattle.window_bounds.specs.declared.JitteredFlow.{JitteredFlow}
+use Rattle.window_bounds.specs.declared.Unbound.{Unbound as WindowUnbound}
+use Rattle.window_bounds.specs.declared.Unbound.TheVariants as WindowFaults
+use Rattle.stream_bounds.specs.Classes.{jittered_of, most_sdu, talker_of}
+use Rattle.stream_bounds.specs.Verdicts.{AreClassAnswers, AreWindows, ClassAnswer, IsAnswerWith, IsBurst, IsBurstAnswer, IsWindowAnswer, burst_answer, burst_limit, windows_of}
 use Rattle.stream_bounds.specs.declared.settings.BoundsSettings.{BoundsSettings}
 use Rattle.traffic.specs.declared.table.Stream.{Stream}
 
@@ -58,6 +66,36 @@ pub if_any : (s : BoundsSettings) (c : Change) (streams : List Stream) (class : 
 if_any s c streams class plan talkers limit told (Ok answer) plan_is talkers_are limit_is least why known answered =
     any_is s c streams class plan talkers limit told answer plan_is talkers_are limit_is least why known answered
 if_any s c streams class plan talkers limit told (Err fault) plan_is talkers_are limit_is least why known answered = tt
+
+-- what the walk over windows tells
+windows_are : (plan : Plan) (class limit : ℕ) (flows : List JitteredFlow) {A : Type 0} (told : Result (Windows A) WindowUnbound)
+    → IfOk told (λ b. AreLeastWindows (may_by plan class) (longest_of flows) (flows_with_windows flows) b.bounds.items b.most)
+    → IfErr told (IsUnboundWindows plan class flows limit)
+    → windows_of told ≢ Err WindowFaults.Memory → AreWindows plan class flows limit (windows_of told)
+windows_are plan class limit flows (Ok b) least why known = least
+windows_are plan class limit flows (Err WindowFaults.Overloaded) least why known = why
+windows_are plan class limit flows (Err WindowFaults.Stuck) least why known = why
+windows_are plan class limit flows (Err WindowFaults.Long) least why known = why
+windows_are plan class limit flows (Err WindowFaults.Late) least why known = why
+windows_are plan class limit flows (Err WindowFaults.Memory) least why known = known refl
+
+-- and so the answer
+pub if_windows : (s : BoundsSettings) (c : Change) (streams : List Stream) (class : ℕ) (plan : Plan) (flows : List JitteredFlow) {A : Type 0}
+    (told : Result (Windows A) WindowUnbound) {F : Type 0} (result : Result ClassAnswer F)
+    → plan ≡ plan_asked c → flows ≡ map (jittered_of s.port.rate (most_sdu s c class)) streams
+    → IfOk told (λ b. AreLeastWindows (may_by plan class) (longest_of flows) (flows_with_windows flows) b.bounds.items b.most)
+    → IfErr told (IsUnboundWindows plan class flows s.frames)
+    → IfOk result (λ a. windows_of told ≢ Err WindowFaults.Memory) → IfOk result (λ a. IsAnswerWith s c streams class a (windows_of told))
+    → IfOk result (λ a. IsWindowAnswer s c streams class a)
+if_windows s c streams class plan flows told (Ok answer) plan_is flows_are least why known answered = record {
+  told = windows_of told;
+  are =
+      let now : AreWindows plan class flows s.frames (windows_of told) = windows_are plan class s.frames flows told least why known in
+      let of_streams : AreWindows plan class (map (jittered_of s.port.rate (most_sdu s c class)) streams) s.frames (windows_of told) = subst (λ (fs : List JitteredFlow). AreWindows plan class fs s.frames (windows_of told)) flows_are now in
+      subst (λ (p : Plan). AreWindows p class (map (jittered_of s.port.rate (most_sdu s c class)) streams) s.frames (windows_of told)) plan_is of_streams;
+  answered = answered;
+}
+if_windows s c streams class plan flows told (Err fault) plan_is flows_are least why known answered = tt
 
 -- the lines of a schedule are written, or not all of them
 pub told_by : (s : BoundsSettings) (c : Change) (streams : List Stream) (number : ℕ) (answers : List ClassAnswer) {E : Type 0}

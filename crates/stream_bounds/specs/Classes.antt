@@ -10,6 +10,7 @@ use Rattle.abstract_port.specs.declared.Command.TheVariants.{Replace}
 use Rattle.abstract_port.specs.declared.Dropped.{Dropped}
 use Rattle.abstract_port.specs.declared.Refused.{Refused}
 use Rattle.burst_bounds.specs.declared.Talker.{Talker}
+use Rattle.window_bounds.specs.declared.JitteredFlow.{JitteredFlow}
 use Rattle.delay_bounds.specs.declared.Flow.{Flow}
 use Rattle.schedule_check.specs.Refusals.{port_with}
 use Rattle.stream_bounds.specs.declared.settings.BoundsSettings.{BoundsSettings}
@@ -83,6 +84,16 @@ len_within sdu x = min x.len (header x + sdu)
 unfoldable pub talker_of : (ps sdu : ℕ) → Stream → Talker
 talker_of ps sdu x = record { need = occupancy_of ps (len_within sdu x); period = x.period; jitter = x.jitter }
 
+-- A stream as a flow, each of whose frames comes in a window of its own; those up to a service data unit are taken.
+unfoldable pub jittered_of : (ps sdu : ℕ) → Stream → JitteredFlow
+jittered_of ps sdu x = record {
+  offset = earliest x;
+  period = x.period;
+  jitter = x.jitter;
+  shortest = min (occupancy_of ps (whole_len x)) (occupancy_of ps (len_within sdu x));
+  longest = occupancy_of ps (len_within sdu x);
+}
+
 -- The frames of a stream come at exact moments, and have one length.
 abbrev pub is_exact : Stream → Bool
 is_exact x = is_some x.offset && (x.jitter == 0 && x.shortest == x.len)
@@ -91,18 +102,29 @@ is_exact x = is_some x.offset && (x.jitter == 0 && x.shortest == x.len)
 abbrev pub has_inexact : List Stream → Bool
 has_inexact streams = list_any (λ x. not (is_exact x)) streams
 
--- Nothing is known of when the frames of a stream come but how far apart, and they have this length.
-abbrev pub is_free : ℕ → Stream → Bool
-is_free len x = not (is_some x.offset) && (x.len == len && x.shortest == len)
+-- nothing is known of when the frames of a stream come but how far apart
+abbrev pub is_any : Stream → Bool
+is_any x = not (is_some x.offset)
+
+-- of all streams, and of some
+abbrev pub are_any : List Stream → Bool
+are_any streams = list_all is_any streams
+
+abbrev pub has_any : List Stream → Bool
+has_any streams = list_any is_any streams
+
+-- the frames of a stream have this length
+abbrev pub has_len : ℕ → Stream → Bool
+has_len len x = x.len == len && x.shortest == len
 
 -- the length of the first stream's frames
 abbrev pub first_len : List Stream → ℕ
 first_len [] = 0
 first_len (x ∷ streams) = x.len
 
--- so it is of each stream, with one length for all
-abbrev pub are_alike : List Stream → Bool
-are_alike streams = list_all (is_free (first_len streams)) streams
+-- the frames of all streams have one length
+abbrev pub are_equal : List Stream → Bool
+are_equal streams = list_all (has_len (first_len streams)) streams
 
 -- a stream whose frames come one after another
 pub record IsPeriodic (x : Stream) : Type 0 where

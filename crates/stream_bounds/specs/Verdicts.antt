@@ -5,10 +5,13 @@
 -- of a class that is full that very frame is the first to be dropped, and of one that is stuck it is too, behind a frame that never starts; and a class
 -- that is overloaded loses a frame at any room.
 --
--- For any other traffic (a frame with jitter, or of a talker that isn't synchronised, or of several lengths) it is what `IsBurstAnswer` says: the least
--- wait and the least number of frames that bound every run whose frames conform to the arrival curve of the streams. What such bounds are
--- worth in every run of a port is the law `any_traffic::any_traffic`; that these frames do conform, `any_traffic::sporadic`.
-use Rattle.std.specs.Prelude.{ℕ, ◌+◌, ◌-◌, ◌^◌, ◌==◌, ◌≡◌, ◌<◌, length, map, min, nat_le, is_some, Bool, true, false, List, [], ◌∷◌, drop, slice_get, slice_set, slice_index_or, Option, Some, None, unwrap_or, Result, Ok, Err, if◌then◌else◌}
+-- Where a frame of the class may come at any moment, it is what `IsBurstAnswer` says: the least wait and the least number of frames that bound every
+-- run whose frames conform to the arrival curve of the streams. What such bounds are worth in every run of a port is the law
+-- `any_traffic::any_traffic`; that these frames do conform, `any_traffic::sporadic`.
+--
+-- For any other traffic (a frame with jitter, or of several lengths) it is what `IsWindowAnswer` says: for each stream the least time, and the least number
+-- of frames, that bound the late run, in which each frame comes as late as it may. What they are worth is the law `any_traffic::periodic_windows`.
+use Rattle.std.specs.Prelude.{ℕ, ◌+◌, ◌-◌, ◌^◌, ◌==◌, ◌≡◌, ◌<◌, length, map, min, nat_le, is_some, ◌&&◌, Bool, true, false, List, [], ◌∷◌, drop, slice_get, slice_set, slice_index_or, Option, Some, None, unwrap_or, Result, Ok, Err, if◌then◌else◌}
 use Rattle.gate_list.specs.Gate.{keeps_apart}
 use Rattle.abstract_port.specs.AbstractPort.{plan_asked}
 use Rattle.abstract_port.specs.declared.Change.{Change}
@@ -19,16 +22,24 @@ use Rattle.delay_bounds.specs.declared.Bound.{Bound}
 use Rattle.delay_bounds.specs.declared.Refused.{Refused}
 use Rattle.delay_bounds.specs.declared.Unbound.{Unbound}
 use Rattle.delay_bounds.specs.declared.Unbound.TheVariants as Unbounds
-use Rattle.burst_bounds.specs.Answer.{IsUnbound}
-use Rattle.burst_bounds.specs.Least.{AreLeast}
+use Rattle.burst_bounds.specs.Answer.{IsUnbound as IsUnboundBurst}
+use Rattle.burst_bounds.specs.Least.{AreLeast as IsLeastBurst}
 use Rattle.burst_bounds.specs.Talkers.{curve, longest_need}
-use Rattle.burst_bounds.specs.declared.Bounds.{Bounds}
-use Rattle.burst_bounds.specs.declared.Talker.{Talker}
+use Rattle.burst_bounds.specs.declared.Bounds.{Bounds as BurstBounds}
 use Rattle.burst_bounds.specs.declared.Unbound.{Unbound as BurstUnbound}
-use Rattle.burst_bounds.specs.declared.Unbound.TheVariants as Bursts
+use Rattle.burst_bounds.specs.declared.Talker.{Talker}
+use Rattle.burst_bounds.specs.declared.Unbound.TheVariants as BurstFaults
+use Rattle.delay_bounds.specs.Walk.{may_by}
+use Rattle.window_bounds.specs.Flows.{flows_of as flows_with_windows, longest_need as longest_of}
+use Rattle.window_bounds.specs.Least.{AreLeast as AreLeastWindows}
+use Rattle.window_bounds.specs.Unbound.{IsUnbound as IsUnboundWindows}
+use Rattle.window_bounds.specs.declared.Bounded.{Bounded}
+use Rattle.window_bounds.specs.declared.JitteredFlow.{JitteredFlow}
+use Rattle.window_bounds.specs.declared.Unbound.{Unbound as WindowUnbound}
+use Rattle.window_bounds.specs.declared.Unbound.TheVariants as WindowFaults
 use Rattle.gate_list.specs.Gate.{Plan}
 use Rattle.wire_time.specs.Wire.{occupancy_of}
-use Rattle.stream_bounds.specs.Classes.{are_alike, class_of, dropped_of, flow_of, has_inexact, most_sdu, streams_of, talker_of}
+use Rattle.stream_bounds.specs.Classes.{are_any, are_equal, class_of, dropped_of, flow_of, has_any, has_inexact, jittered_of, most_sdu, streams_of, talker_of}
 use Rattle.stream_bounds.specs.declared.settings.BoundsSettings.{BoundsSettings}
 use Rattle.stream_bounds.specs.declared.verdicts.Needs.{Needs}
 use Rattle.stream_bounds.specs.declared.verdicts.Place.{Place}
@@ -100,7 +111,7 @@ answer_at answers class = slice_index_or answers class idle
 abbrev pub one_told : List ClassAnswer → ℕ → List ClassAnswer
 one_told answers class = slice_set answers class (record { verdict = (answer_at answers class).verdict; left = drop 1 (answer_at answers class).left })
 
--- 2. A class with any other traffic
+-- 2. A class some of whose frames may come at any moment, by how far apart they come
 
 -- By how much a frame of a stream may come later than the moment that its bounds count from: of a known offset that is its earliest, else its own.
 abbrev pub late_by : Stream → ℕ
@@ -110,23 +121,27 @@ late_by x = if is_some x.offset then x.jitter else 0
 abbrev pub range_of : ℕ → Stream → Bound
 range_of wait x = record { least = 0; greatest = plus wait (late_by x) }
 
--- bounds, where there is room for as many frames as may wait
-abbrev pub within_room : Bool → Bounds → List Stream → ClassAnswer
-within_room true b streams = record { verdict = Verdicts.Within b.most (are_alike streams); left = map (range_of b.wait) streams }
-within_room false b streams = record { verdict = Verdicts.Crowded b.most; left = [] }
+-- Bounds, where there is room for as many frames as may wait; and whether a frame of each stream may take so long.
+abbrev pub within_room : Bool → ℕ → Bool → List Bound → ClassAnswer
+within_room true most reached bounds = record { verdict = Verdicts.Within most reached; left = bounds }
+within_room false most reached bounds = record { verdict = Verdicts.Crowded most; left = [] }
+
+-- a class without bounds
+abbrev pub unbounded : Verdict → ClassAnswer
+unbounded verdict = record { verdict = verdict; left = [] }
 
 -- the answer about a class with these streams, with room for so many frames
-abbrev pub burst_answer : ℕ → List Stream → Result Bounds BurstUnbound → ClassAnswer
-burst_answer room streams (Ok b) = within_room (nat_le b.most room) b streams
-burst_answer room streams (Err Bursts.Overloaded) = record { verdict = Verdicts.Overloaded false; left = [] }
-burst_answer room streams (Err Bursts.Stuck) = record { verdict = Verdicts.Unfit; left = [] }
-burst_answer room streams (Err why) = record { verdict = Verdicts.Long; left = [] }
+abbrev pub burst_answer : ℕ → List Stream → Result BurstBounds BurstUnbound → ClassAnswer
+burst_answer room streams (Ok b) = within_room (nat_le b.most room) b.most (are_equal streams && are_any streams) (map (range_of b.wait) streams)
+burst_answer room streams (Err BurstFaults.Overloaded) = unbounded (Verdicts.Overloaded false)
+burst_answer room streams (Err BurstFaults.Stuck) = unbounded Verdicts.Unfit
+burst_answer room streams (Err why) = unbounded Verdicts.Long
 
 -- Of so many frames of a busy time: these bounds are the least, or this is why there are none.
-abbrev pub IsBurst : Plan → ℕ → List Talker → ℕ → Result Bounds BurstUnbound → Type 0
-IsBurst plan class talkers limit (Ok b) = AreLeast plan class (longest_need talkers) (curve talkers) b.wait b.most
-IsBurst plan class talkers limit (Err Bursts.Memory) = ⊥
-IsBurst plan class talkers limit (Err why) = IsUnbound plan class talkers limit why
+abbrev pub IsBurst : Plan → ℕ → List Talker → ℕ → Result BurstBounds BurstUnbound → Type 0
+IsBurst plan class talkers limit (Ok b) = IsLeastBurst plan class (longest_need talkers) (curve talkers) b.wait b.most
+IsBurst plan class talkers limit (Err BurstFaults.Memory) = ⊥
+IsBurst plan class talkers limit (Err why) = IsUnboundBurst plan class talkers limit why
 
 -- at most so many frames of a busy time are looked at
 abbrev pub burst_limit : BoundsSettings → ℕ
@@ -134,23 +149,59 @@ burst_limit s = min s.frames (2 ^ 32 - 1)
 
 -- The answer about a class with these streams: by the least bounds of their arrival curve.
 pub record IsBurstAnswer (s : BoundsSettings) (c : Change) (streams : List Stream) (class : ℕ) (answer : ClassAnswer) : Type 0 where
-  pub told : Result Bounds BurstUnbound
+  pub told : Result BurstBounds BurstUnbound
   pub is : IsBurst (plan_asked c) class (map (talker_of s.port.rate (most_sdu s c class)) streams) (burst_limit s) told
   pub answered : answer ≡ burst_answer s.port.room streams told
 
--- 3. All classes
+-- 3. A class each of whose frames comes in a window of its own
 
--- the answer about a class with these streams, by whether it is kept apart, and whether its traffic is other than exact
-abbrev pub IsAnswerBy : (apart inexact : Bool) → BoundsSettings → Change → List Stream → ℕ → ClassAnswer → Type 0
-IsAnswerBy apart inexact s c [] class answer = answer ≡ idle
-IsAnswerBy false inexact s c (x ∷ streams) class answer = answer ≡ record { verdict = Verdicts.Shared; left = [] }
-IsAnswerBy true false s c (x ∷ streams) class answer = answer ≡ exact_answer s (plan_asked c) (x ∷ streams) class
-IsAnswerBy true true s c (x ∷ streams) class answer = IsBurstAnswer s c (x ∷ streams) class answer
+-- least bounds of each stream, and the most frames that ever wait at once; or why there are none
+pub record LeastWindows : Type 0 where
+  pub bounds : List Bound
+  pub most : ℕ
+
+-- what `window_bounds` answers, without where it is kept
+abbrev pub windows_of : {A : Type 0} → Result (Bounded A) WindowUnbound → Result LeastWindows WindowUnbound
+windows_of (Ok b) = Ok (record { bounds = b.bounds.items; most = b.most })
+windows_of (Err why) = Err why
+
+-- Of so many frames: these bounds are the least, or this is why there are none.
+abbrev pub AreWindows : Plan → ℕ → List JitteredFlow → ℕ → Result LeastWindows WindowUnbound → Type 0
+AreWindows plan class flows limit (Ok w) =
+    AreLeastWindows (may_by plan class) (longest_of flows) (flows_with_windows flows) w.bounds w.most
+AreWindows plan class flows limit (Err WindowFaults.Memory) = ⊥
+AreWindows plan class flows limit (Err why) = IsUnboundWindows plan class flows limit why
+
+-- The answer about a class with these streams, with room for so many frames. Where too few frames are looked at it is that by how far apart they come.
+abbrev pub IsAnswerWith : BoundsSettings → Change → List Stream → ℕ → ClassAnswer → Result LeastWindows WindowUnbound → Type 0
+IsAnswerWith s c streams class answer (Ok w) = answer ≡ within_room (nat_le w.most s.port.room) w.most (are_equal streams) w.bounds
+IsAnswerWith s c streams class answer (Err WindowFaults.Overloaded) = answer ≡ unbounded (Verdicts.Overloaded false)
+IsAnswerWith s c streams class answer (Err WindowFaults.Stuck) = answer ≡ unbounded Verdicts.Unfit
+IsAnswerWith s c streams class answer (Err why) = IsBurstAnswer s c streams class answer
+
+-- The answer about a class with these streams: by the least bounds of their windows.
+pub record IsWindowAnswer (s : BoundsSettings) (c : Change) (streams : List Stream) (class : ℕ) (answer : ClassAnswer) : Type 0 where
+  pub told : Result LeastWindows WindowUnbound
+  pub are : AreWindows (plan_asked c) class (map (jittered_of s.port.rate (most_sdu s c class)) streams) s.frames told
+  pub answered : IsAnswerWith s c streams class answer told
+
+-- 4. All classes
+
+-- the answer about a class that is kept apart, with these streams, by whether any frame may come at any moment, and whether any stream isn't exact
+abbrev pub IsApartAnswer : (anywhen inexact : Bool) → BoundsSettings → Change → List Stream → ℕ → ClassAnswer → Type 0
+IsApartAnswer true inexact s c streams class answer = IsBurstAnswer s c streams class answer
+IsApartAnswer false true s c streams class answer = IsWindowAnswer s c streams class answer
+IsApartAnswer false false s c streams class answer = answer ≡ exact_answer s (plan_asked c) streams class
+
+-- the answer about a class with these streams, by whether it is kept apart
+abbrev pub IsAnswerBy : Bool → BoundsSettings → Change → List Stream → ℕ → ClassAnswer → Type 0
+IsAnswerBy apart s c [] class answer = answer ≡ idle
+IsAnswerBy false s c (x ∷ streams) class answer = answer ≡ unbounded Verdicts.Shared
+IsAnswerBy true s c (x ∷ streams) class answer = IsApartAnswer (has_any (x ∷ streams)) (has_inexact (x ∷ streams)) s c (x ∷ streams) class answer
 
 -- the answer about a class, by its streams in a table
 abbrev pub IsClassAnswer : BoundsSettings → Change → List Stream → ℕ → ClassAnswer → Type 0
-IsClassAnswer s c streams class answer =
-    IsAnswerBy (keeps_apart (plan_asked c).entries class) (has_inexact (streams_of s c class streams)) s c (streams_of s c class streams) class answer
+IsClassAnswer s c streams class answer = IsAnswerBy (keeps_apart (plan_asked c).entries class) s c (streams_of s c class streams) class answer
 
 -- the answers about classes from one on
 abbrev pub AreAnswersFrom : BoundsSettings → Change → List Stream → ℕ → List ClassAnswer → Type 0
@@ -161,7 +212,7 @@ AreAnswersFrom s c streams class (answer ∷ answers) = IsClassAnswer s c stream
 abbrev pub AreClassAnswers : BoundsSettings → Change → List Stream → List ClassAnswer → Type 0
 AreClassAnswers s c streams answers = (length answers ≡ 8) × AreAnswersFrom s c streams 0 answers
 
--- 4. A stream
+-- 5. A stream
 
 -- how long the shortest and the longest frame of a stream occupy the wire
 abbrev pub needs_of : ℕ → Stream → Needs

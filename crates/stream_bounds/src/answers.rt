@@ -1,28 +1,31 @@
 //! The answers about all classes.
 
-ghost use Rattle.std.specs.Prelude.{◌≡◌, ◌≢◌, ◌<◌, All, Err, IfErr, IfOk, Result, drop, length, nat_le, slice_get, unwrap_or};
+ghost use Rattle.std.specs.Prelude.{◌≡◌, ◌≢◌, ◌<◌, All, Err, Ok, IfErr, IfOk, Result, drop, length, nat_le, slice_get, unwrap_or};
 ghost use Rattle.abstract_port.specs.AbstractPort.{plan_asked};
 ghost use Rattle.job.specs.declared.fault.Fault.TheVariants as Faults;
 ghost use Rattle.wire_time.specs.declared.TheConstants.{CLASSES};
-ghost use Rattle.burst_bounds.specs.declared.Unbound.TheVariants as Bursts;
+ghost use Rattle.burst_bounds.specs.declared.Unbound.TheVariants as BurstFaults;
 ghost use Rattle.delay_bounds.specs.Bounded.{Answer};
-ghost use Rattle.stream_bounds.specs.Classes.{IsPeriodic};
+ghost use Rattle.window_bounds.specs.declared.Unbound.TheVariants as WindowFaults;
+ghost use Rattle.stream_bounds.specs.Classes.{IsPeriodic, has_any, has_inexact};
 ghost use Rattle.stream_bounds.specs.TableRead.{IsAnswered};
-ghost use Rattle.stream_bounds.specs.Verdicts.{AreClassAnswers, IsBurstAnswer, IsClassAnswer, answer_at, apart_answer, burst_answer, delay_of, exact_answer, left_after, one_told, within_room};
+ghost use Rattle.stream_bounds.specs.Verdicts.{AreClassAnswers, IsApartAnswer, IsBurstAnswer, IsClassAnswer, IsAnswerWith, IsWindowAnswer, answer_at, apart_answer, burst_answer, delay_of, exact_answer, left_after, one_told, unbounded, windows_of, within_room};
 
 use crate::classes::{
-    are_alike, flows_of, has_inexact, ids_of, most_sdu, ranges_of, streams_of, talkers_of,
+    are_any, are_equal, flows_of, has_any, has_inexact, ids_of, jittered_flows_of, most_sdu,
+    ranges_of, streams_of, talkers_of,
 };
 use crate::faults::BoundsFault;
 use crate::settings::BoundsSettings;
 use crate::verdicts::{Delay, Verdict, delay_by, verdict_of};
 use abstract_port::{Change, Dropped};
-use burst_bounds::{Bounds, Unbound as BurstUnbound, burst_bounds};
+use burst_bounds::{Bounds as BurstBounds, Unbound as BurstUnbound, burst_bounds};
 use delay_bounds::{Bound, Bounded, Unbound, bound_flows};
 use gate_list::Schedule;
 use std::alloc::Global;
 use std::marker::Model;
 use traffic::Stream;
+use window_bounds::{Bounded as Windows, Unbound as WindowUnbound, window_bounds};
 use wire_time::CLASSES;
 
 /// The answer about a class: the verdict, the bounds of its streams, and how many of them are told.
@@ -128,24 +131,36 @@ fn exact_answer(
     apart_answer(alloc, streams, answer)
 }
 
-/// The bounds of a class with these streams, as far as there is room for the frames that may wait.
+/// Bounds, as far as there is room for the frames that may wait; and whether a frame of each stream may take so long.
 fn within_room(
     alloc: Global,
     room: u32,
-    bounds: Bounds,
+    most: u64,
+    reached: bool,
+    bounds: Vec<Bound, Global>,
+) -> ClassAnswer
+    ensures { result ≡ within_room (nat_le most room) most reached bounds.items }
+{
+    if most <= u64::from(room) {
+        ClassAnswer::new(Verdict::Within { most, reached }, bounds)
+    } else {
+        ClassAnswer::new(Verdict::Crowded { most }, Vec::new(alloc))
+    }
+}
+
+/// The bounds of a class with these streams, whose frames wait for so long at most.
+fn burst_within(
+    alloc: Global,
+    room: u32,
     streams: &[Stream],
+    bounds: BurstBounds,
 ) -> Result<ClassAnswer, BoundsFault>
-    ensures answer { IfOk result (λ a. a ≡ within_room (nat_le bounds.most room) bounds streams.now) }
+    ensures answer { IfOk result (λ a. a ≡ burst_answer room streams.now (Ok bounds)) }
     ensures memory { IfErr result (λ fault. fault ≡ Faults.Memory) }
 {
-    let most = bounds.most;
-    if most as u128 <= u128::from(room) {
-        let reached = are_alike(streams);
-        let ranges = ranges_of(alloc, bounds.wait, streams)?;
-        Ok(ClassAnswer::new(Verdict::Within { most, reached }, ranges))
-    } else {
-        Ok(ClassAnswer::new(Verdict::Crowded { most }, Vec::new(alloc)))
-    }
+    let ranges = ranges_of(alloc, bounds.wait, streams)?;
+    let reached = are_equal(streams) && are_any(streams);
+    Ok(within_room(alloc, room, bounds.most as u64, reached, ranges))
 }
 
 /// The answer about a class with these streams, by its least bounds.
@@ -153,14 +168,14 @@ fn burst_answer(
     alloc: Global,
     room: u32,
     streams: &[Stream],
-    told: Result<Bounds, BurstUnbound>,
+    told: Result<BurstBounds, BurstUnbound>,
 ) -> Result<ClassAnswer, BoundsFault>
     ensures answer { IfOk result (λ a. a ≡ burst_answer room streams.now told) }
-    ensures known { IfOk result (λ a. told ≢ Err Bursts.Memory) }
+    ensures known { IfOk result (λ a. told ≢ Err BurstFaults.Memory) }
     ensures memory { IfErr result (λ fault. fault ≡ Faults.Memory) }
 {
     let why = match told {
-        Ok(bounds) => return within_room(alloc, room, bounds, streams),
+        Ok(bounds) => return burst_within(alloc, room, streams, bounds),
         Err(why) => why,
     };
     let verdict = match why {
@@ -172,7 +187,8 @@ fn burst_answer(
     Ok(ClassAnswer::new(verdict, Vec::new(alloc)))
 }
 
-/// The answer about a class with these streams, whose frames come whenever they may, in a schedule that keeps it apart.
+/// The answer about a class with these streams, some of whose frames may come at any moment, in a schedule that keeps it
+/// apart.
 fn any_answer(
     alloc: Global,
     settings: &BoundsSettings,
@@ -193,6 +209,96 @@ fn any_answer(
     let limit = settings.frames.min(u64::from(u32::MAX)) as u32;
     let told = burst_bounds(&alloc, schedule, class, talkers.as_slice(), limit);
     burst_answer(alloc, settings.port.room(), streams, told)
+}
+
+/// A class without bounds.
+fn unbounded(alloc: Global, verdict: Verdict) -> ClassAnswer
+    ensures { result ≡ unbounded verdict }
+{
+    ClassAnswer::new(verdict, Vec::new(alloc))
+}
+
+/// The answer about a class with these streams, by the least bounds of their windows. Where too few frames are looked
+/// at, it is that by how far apart they come.
+fn answer_with(
+    alloc: Global,
+    settings: &BoundsSettings,
+    change: &Change,
+    schedule: &Schedule,
+    streams: &[Stream],
+    class: u8,
+    told: Result<Windows<Global>, WindowUnbound>,
+) -> Result<ClassAnswer, BoundsFault>
+    requires class { class < CLASSES }
+    requires plan { schedule.now ≡ plan_asked change.now }
+    requires periodic { All IsPeriodic streams.now }
+    requires some { 0 < length streams.now }
+    ensures answer { IfOk result (λ a.
+        IsAnswerWith settings.now change.now streams.now class a (windows_of told)) }
+    ensures known { IfOk result (λ a. windows_of told ≢ Err WindowFaults.Memory) }
+    ensures memory { IfErr result (λ fault. fault ≡ Faults.Memory) }
+{
+    match told {
+        Ok(told) => {
+            let reached = are_equal(streams);
+            let room = settings.port.room();
+            Ok(within_room(alloc, room, told.most, reached, told.bounds))
+        }
+        Err(WindowUnbound::Overloaded) => Ok(unbounded(alloc, Verdict::Overloaded { alone: false })),
+        Err(WindowUnbound::Stuck) => Ok(unbounded(alloc, Verdict::Unfit)),
+        Err(WindowUnbound::Long) => any_answer(alloc, settings, change, schedule, streams, class),
+        Err(WindowUnbound::Late) => any_answer(alloc, settings, change, schedule, streams, class),
+        Err(WindowUnbound::Memory) => Err(BoundsFault::Memory),
+    }
+}
+
+/// The answer about a class with these streams, each of whose frames comes in a window of its own, in a schedule that
+/// keeps it apart.
+fn window_answer(
+    alloc: Global,
+    settings: &BoundsSettings,
+    change: &Change,
+    schedule: &Schedule,
+    streams: &[Stream],
+    class: u8,
+) -> Result<ClassAnswer, BoundsFault>
+    requires class { class < CLASSES }
+    requires plan { schedule.now ≡ plan_asked change.now }
+    requires periodic { All IsPeriodic streams.now }
+    requires some { 0 < length streams.now }
+    ensures answer { IfOk result (λ a. IsWindowAnswer settings.now change.now streams.now class a) }
+    ensures memory { IfErr result (λ fault. fault ≡ Faults.Memory) }
+{
+    let sdu = most_sdu(settings, change, class);
+    let flows = jittered_flows_of(alloc, settings.port.rate(), sdu, streams)?;
+    let told = window_bounds(&alloc, schedule, class, flows.as_slice(), settings.frames);
+    answer_with(alloc, settings, change, schedule, streams, class, told)
+}
+
+/// The answer about a class with these streams, in a schedule that keeps it apart.
+fn kept_answer(
+    alloc: Global,
+    settings: &BoundsSettings,
+    change: &Change,
+    schedule: &Schedule,
+    streams: &[Stream],
+    class: u8,
+) -> Result<ClassAnswer, BoundsFault>
+    requires class { class < CLASSES }
+    requires plan { schedule.now ≡ plan_asked change.now }
+    requires periodic { All IsPeriodic streams.now }
+    requires some { 0 < length streams.now }
+    ensures answer { IfOk result (λ a.
+        IsApartAnswer (has_any streams.now) (has_inexact streams.now) settings.now change.now streams.now class a) }
+    ensures memory { IfErr result (λ fault. fault ≡ Faults.Memory) }
+{
+    if has_any(streams) {
+        any_answer(alloc, settings, change, schedule, streams, class)
+    } else if has_inexact(streams) {
+        window_answer(alloc, settings, change, schedule, streams, class)
+    } else {
+        exact_answer(alloc, settings, schedule, streams, class)
+    }
 }
 
 /// The answer about a class.
@@ -218,11 +324,7 @@ fn class_answer(
     if !schedule.keeps_apart(class) {
         return Ok(ClassAnswer::new(Verdict::Shared, Vec::new(alloc)));
     }
-    if has_inexact(own) {
-        any_answer(alloc, settings, change, schedule, own, class)
-    } else {
-        exact_answer(alloc, settings, schedule, own, class)
-    }
+    kept_answer(alloc, settings, change, schedule, own, class)
 }
 
 /// The answers about all classes.

@@ -130,7 +130,7 @@ fn put_within<W: Write>(
     writer: &mut W,
     class: u8,
     room: u32,
-    most: usize,
+    most: u64,
 ) -> Result<(), WriteFault>
     ensures { Writes result (W.contents writer.old) (W.contents writer.new) (within_line class room most) }
 {
@@ -140,7 +140,7 @@ fn put_within<W: Write>(
             Part::Text(b"class "),
             Part::Number(u128::from(class)),
             Part::Text(b" within most "),
-            Part::Number(most as u128),
+            Part::Number(u128::from(most)),
             Part::Text(b" of "),
             Part::Number(u128::from(room)),
             Part::Text(b"\n"),

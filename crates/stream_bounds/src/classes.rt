@@ -5,8 +5,9 @@ ghost use Rattle.abstract_port.specs.AbstractPort.{class_for, limit_of, verdict}
 ghost use Rattle.wire_time.specs.declared.TheConstants.{CLASSES};
 ghost use Rattle.burst_bounds.specs.Talkers.{IsTalker};
 ghost use Rattle.delay_bounds.specs.Claim.{IsFlow};
+ghost use Rattle.window_bounds.specs.Flows.{IsFlow as IsJittered};
 ghost use Rattle.job.specs.declared.fault.Fault.TheVariants as Faults;
-ghost use Rattle.stream_bounds.specs.Classes.{are_alike, class_of, dropped_of, first_len, flow_of, frame_of, has_inexact, header, is_class, is_exact, is_free, len_within, most_sdu, port_of, streams_of, talker_of, whole_len, IsPeriodic};
+ghost use Rattle.stream_bounds.specs.Classes.{are_any, are_equal, class_of, dropped_of, first_len, flow_of, frame_of, has_any, has_inexact, has_len, header, is_any, jittered_of, is_class, is_exact, len_within, most_sdu, port_of, streams_of, talker_of, whole_len, IsPeriodic};
 ghost use Rattle.stream_bounds.specs.Verdicts.{late_by, range_of};
 
 use crate::faults::BoundsFault;
@@ -19,6 +20,7 @@ use port::default_class;
 use schedule_check::map_after;
 use std::alloc::Allocator;
 use traffic::{Stream, earliest};
+use window_bounds::JitteredFlow;
 use wire_time::{CLASSES, Frame, Rate, occupancy, sdu};
 
 /// A frame of a stream, of this length.
@@ -243,6 +245,45 @@ pub fn talkers_of<A: Allocator>(
     Ok(talkers)
 }
 
+/// A stream as a flow, each of whose frames comes in a window of its own; those up to a service data unit are taken.
+#[tactic(auto, unfolding(crate::specs::Classes::jittered_of))]
+fn jittered_of(rate: Rate, sdu: u32, stream: &Stream) -> JitteredFlow
+    requires { IsPeriodic stream.now }
+    ensures flow { result ≡ jittered_of rate sdu stream.now }
+    ensures fits { IsJittered result }
+{
+    let longest = occupancy(rate, len_within(sdu, stream));
+    JitteredFlow {
+        offset: earliest(stream),
+        period: stream.period,
+        jitter: stream.jitter,
+        shortest: occupancy(rate, whole_len(stream)).min(longest),
+        longest,
+    }
+}
+
+/// Streams as flows with windows, of whose frames those up to a service data unit are taken.
+pub fn jittered_flows_of<A: Allocator>(
+    alloc: A,
+    rate: Rate,
+    sdu: u32,
+    streams: &[Stream],
+) -> Result<Vec<JitteredFlow, A>, BoundsFault>
+    requires { All IsPeriodic streams.now }
+    ensures flows { IfOk result (λ flows. flows.items ≡ map (jittered_of rate sdu) streams.now) }
+    ensures fit { IfOk result (λ flows. All IsJittered flows.items) }
+    ensures memory { IfErr result (λ fault. fault ≡ Faults.Memory) }
+{
+    let mut flows = Vec::new(alloc);
+    for stream in streams {
+        match flows.push(jittered_of(rate, sdu, stream)) {
+            Ok(()) => {}
+            Err(_) => return Err(BoundsFault::Memory),
+        }
+    }
+    Ok(flows)
+}
+
 /// By how much a frame of a stream may come later than the moment that its bounds count from.
 fn late_by(stream: &Stream) -> u128
     ensures { result ≡ late_by stream.now }
@@ -311,11 +352,25 @@ pub fn has_inexact(streams: &[Stream]) -> bool
     streams.iter().any(|stream| !is_exact(stream))
 }
 
-/// Whether nothing is known of when the frames of a stream come but how far apart, and they have this length.
-fn is_free(len: u32, stream: &Stream) -> bool
-    ensures { result ≡ is_free len stream.now }
+/// Whether nothing is known of when the frames of a stream come but how far apart.
+fn is_any(stream: &Stream) -> bool
+    ensures { result ≡ is_any stream.now }
 {
-    stream.offset.is_none() && stream.len == len && stream.shortest == len
+    stream.offset.is_none()
+}
+
+/// Whether it is so of all streams.
+pub fn are_any(streams: &[Stream]) -> bool
+    ensures { result ≡ are_any streams.now }
+{
+    streams.iter().all(|stream| is_any(stream))
+}
+
+/// Whether it is so of some.
+pub fn has_any(streams: &[Stream]) -> bool
+    ensures { result ≡ has_any streams.now }
+{
+    streams.iter().any(|stream| is_any(stream))
 }
 
 /// The length of the first stream's frames.
@@ -328,10 +383,17 @@ fn first_len(streams: &[Stream]) -> u32
     }
 }
 
-/// Whether it is so of each stream, with one length for all.
-pub fn are_alike(streams: &[Stream]) -> bool
-    ensures { result ≡ are_alike streams.now }
+/// Whether the frames of a stream have this length.
+fn has_len(len: u32, stream: &Stream) -> bool
+    ensures { result ≡ has_len len stream.now }
+{
+    stream.len == len && stream.shortest == len
+}
+
+/// Whether the frames of all streams have one length.
+pub fn are_equal(streams: &[Stream]) -> bool
+    ensures { result ≡ are_equal streams.now }
 {
     let len = first_len(streams);
-    streams.iter().all(|stream| is_free(len, stream))
+    streams.iter().all(|stream| has_len(len, stream))
 }

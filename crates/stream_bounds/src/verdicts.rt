@@ -42,12 +42,12 @@ pub enum Verdict {
     /// Its delays have bounds, whenever its frames come: the most frames that may wait at once, and whether a frame of
     /// each stream may wait for so long.
     Within {
-        most: usize,
+        most: u64,
         reached: bool,
     },
     /// More of its frames may wait at once than there is room for.
     Crowded {
-        most: usize,
+        most: u64,
     },
     /// The first frame that finds no room, and whether the class has no other stream than its.
     Full {
