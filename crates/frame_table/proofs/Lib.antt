@@ -1,7 +1,9 @@
+pub mod AlertLaws
 pub mod RunLaws
 pub mod RowLaws
 pub mod ArrivalLaws
 pub mod LineSteps
+pub mod RowWalkLaws
 pub mod WalkLaws
 pub mod RecordWalk
 pub mod CaptureLaws

@@ -4,6 +4,8 @@ pub mod Deadline
 pub mod RowText
 pub mod Rows
 pub mod Outcome
+pub mod Alerts
+pub mod ToldRows
 pub mod ByStream
 pub mod Walk
 pub mod OfCapture

@@ -2,6 +2,7 @@
 
 ghost use Rattle.std.specs.Prelude.{◌≡◌, IfErr};
 ghost use Rattle.octet_writer.specs.Buffered.{writer_contents};
+ghost use Rattle.frame_table.specs.Alerts.{IsWatchedEnding};
 ghost use Rattle.frame_table.specs.Words.{IsByStreamEnding, IsCaptureEnding, IsEnding, greatest_moment, settings_given, whole_frames, words_of_values};
 
 use crate::by_stream::run_frames_by_stream;
@@ -27,6 +28,7 @@ pub fn answer_frames<A: Allocator, B: Allocator, R: Read, W: Write + Drop, E: Er
 ) -> (Ended, W)
     ensures ending { IsEnding whole_frames (settings_given greatest_moment (words_of_values values.entry))
         (R.remaining reader.old) result.0 (writer_contents W.contents answers) (W.contents result.1) (E.contents errors.old) (E.contents errors.new) }
+    ensures watched { IsWatchedEnding H.alerted (settings_given greatest_moment (words_of_values values.entry)) (R.remaining reader.old) result.0 watch.old watch.new }
     ensures unread { IfErr (settings_given greatest_moment (words_of_values values.entry)) (λ _. reader.new ≡ reader.old) }
 {
     match settings_given(values, MAX_MOMENT) {

@@ -2,10 +2,11 @@
 //! waited, and its fate.
 //!
 //! The definition is specs/Rows.antt, with its text in specs/RowText.antt; the contracts of `run_frames` and
-//! `answer_frames` cite it by specs/Outcome.antt, and those of `run_frames_by_stream` and `answer_frames_by_stream`,
-//! which also say of which stream of a table a frame is (specs/StreamOf.antt) and whether it is in time for that
-//! stream's deadline (specs/Deadline.antt), by specs/ByStream.antt. Those of `run_frames_of_capture` and
-//! `answer_frames_of_capture`, for the frames of a replay, cite it by specs/OfCapture.antt.
+//! `answer_frames` cite it by specs/Outcome.antt, and what who watches is told is specs/Alerts.antt. Those of
+//! `run_frames_by_stream` and `answer_frames_by_stream`, which also say of which stream of a table a frame is
+//! (specs/StreamOf.antt) and whether it is in time for that stream's deadline (specs/Deadline.antt), cite it by
+//! specs/ByStream.antt. Those of `run_frames_of_capture` and `answer_frames_of_capture`, for the frames of a replay, cite
+//! it by specs/OfCapture.antt.
 #![tactic(auto)]
 
 mod arrivals;
@@ -16,6 +17,7 @@ mod frames_job;
 mod kept_lines;
 pub mod laws;
 mod records;
+mod row_writer;
 mod rows;
 mod streams;
 mod table_run;

@@ -3,6 +3,7 @@
 ghost use Rattle.std.specs.Prelude.{◌≡◌};
 ghost use Rattle.octet_writer.specs.Writes.{Writes};
 ghost use Rattle.answer_text.specs.Part.{text_of};
+ghost use Rattle.frame_table.specs.StreamOf.{stream_by};
 ghost use Rattle.frame_table.specs.RowText.{end_text, fate_text, has_column, head_line, number_text, row_line, start_text, stream_comma, stream_text, wait_text};
 
 use crate::deadline::{deadline_text, tell_judged};
@@ -117,7 +118,7 @@ fn stream_part<'a>(stream: &Option<Stream>) -> Part<'a>
 }
 
 /// Whether there is a column of deadlines.
-fn has_column<A: Allocator>(streams: &Option<Streams<A>>) -> bool
+pub(crate) fn has_column<A: Allocator>(streams: &Option<Streams<A>>) -> bool
     ensures { result ≡ has_column streams.now }
 {
     match streams {
@@ -149,18 +150,17 @@ pub(crate) fn put_head<A: Allocator, W: Write>(
     put(writer, head_text(streams))
 }
 
-/// Writes a row, and calls who watches where its frame has a deadline and isn't in time. At a fault a prefix of it is
-/// written.
-pub(crate) fn put_row<A: Allocator, W: Write, H: Watch>(
+/// Writes a row, whose frame is of this stream, if it is of one. At a fault a prefix of it is written.
+fn put_fields<A: Allocator, W: Write>(
     streams: &Option<Streams<A>>,
+    stream: &Option<Stream>,
     writer: &mut W,
     row: &FrameRow,
-    watch: &mut H,
 ) -> Result<(), WriteFault>
+    requires { stream.now ≡ stream_by streams.now row.now.arrival.id }
     ensures { Writes result (W.contents writer.old) (W.contents writer.new) (row_line streams.now row.now) }
 {
-    let stream = stream_by(streams, row.arrival.id);
-    let written = put_parts(
+    put_parts(
         writer,
         &[
             Part::Number(u128::from(row.arrival.id)),
@@ -179,11 +179,37 @@ pub(crate) fn put_row<A: Allocator, W: Write, H: Watch>(
             Part::Text(b","),
             Part::Text(fate_name(&row.fate)),
             stream_comma(streams),
-            stream_part(&stream),
-            Part::Text(deadline_text(has_column(streams), &stream, row.arrival.at, &row.fate)),
+            stream_part(stream),
+            Part::Text(deadline_text(has_column(streams), stream, row.arrival.at, &row.fate)),
             Part::Text(b"\n"),
         ],
-    );
+    )
+}
+
+/// Writes a row. At a fault a prefix of it is written.
+pub(crate) fn write_row<A: Allocator, W: Write>(
+    streams: &Option<Streams<A>>,
+    writer: &mut W,
+    row: &FrameRow,
+) -> Result<(), WriteFault>
+    ensures { Writes result (W.contents writer.old) (W.contents writer.new) (row_line streams.now row.now) }
+{
+    let stream = stream_by(streams, row.arrival.id);
+    put_fields(streams, &stream, writer, row)
+}
+
+/// Writes a row, and calls who watches where its frame has a deadline and isn't in time. At a fault a prefix of it is
+/// written.
+pub(crate) fn put_row<A: Allocator, W: Write, H: Watch>(
+    streams: &Option<Streams<A>>,
+    writer: &mut W,
+    row: &FrameRow,
+    watch: &mut H,
+) -> Result<(), WriteFault>
+    ensures { Writes result (W.contents writer.old) (W.contents writer.new) (row_line streams.now row.now) }
+{
+    let stream = stream_by(streams, row.arrival.id);
+    let written = put_fields(streams, &stream, writer, row);
     if written.is_ok() {
         tell_judged(&stream, row, watch);
     }

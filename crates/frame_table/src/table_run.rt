@@ -1,10 +1,16 @@
 //! Runs a script, and writes the table of its frames.
 
-ghost use Rattle.std.specs.Prelude.{◌≡◌, ◌<◌, ◌≤◌, ℕ, IfSome, List, Result, map};
+ghost use Rattle.std.specs.Prelude.{◌≡◌, ◌<◌, ◌≤◌, ℕ, IfSome, List, Result, false, map};
+ghost use Rattle.frame_table.specs.Alerts.{IsWatchedFrames};
+ghost use Rattle.frame_table.specs.RowText.{has_column};
+ghost use Rattle.script.specs.Alerts.{Watched, alerts_of};
+ghost use Rattle.script.specs.Outcome.{reading_of};
+ghost use Rattle.script.specs.Told.{told_of};
 ghost use Rattle.frame_table.specs.Words.{Arrive, Clock, Command, IsAfter, IsReader, IsSoundPort, Runs, RunsOut, TcFault, Writes, ending_text, first_came, frames_by, frames_of, goes, greatest_moment, left_row, left_rows, responses_to, rows_at, rows_told, rows_text, script_left, sent_row, settled, table_from, tc_request, waiting_in, with_head, words_of};
 
 use crate::arrivals::Arrivals;
-use crate::rows::{Arrival, Fate, FrameRow, put_head, put_row};
+use crate::row_writer::{RowWriter, walk_rows};
+use crate::rows::{Arrival, Fate, FrameRow, has_column, put_head, put_row};
 use crate::streams::Streams;
 use abstract_port::{Event, Refused, Start};
 use answer_text::WriteFault;
@@ -42,6 +48,7 @@ fn take_frame<A: Allocator + Clone, B: Allocator, W: Write, H: Watch>(
             Ok(())
         }
         Err(why) => {
+            watch.frame_dropped(now, frame, why);
             let fate = Fate::Lost(why);
             put_row(
                 streams,
@@ -212,7 +219,7 @@ fn put_left_in<A: Allocator, B: Allocator, W: Write, H: Watch>(
 }
 
 /// Writes the rows of the frames that still wait, class by class.
-fn put_all_left<A: Allocator, B: Allocator, W: Write, H: Watch>(
+pub(crate) fn put_all_left<A: Allocator, B: Allocator, W: Write, H: Watch>(
     arrivals: &Arrivals<A>,
     streams: &Option<Streams<B>>,
     writer: &mut W,
@@ -280,21 +287,51 @@ fn run_lines<A: Allocator + Clone, B: Allocator, C: Allocator, R: Read + Drop, W
     Ok(())
 }
 
-/// Writes the head of the table, and then the table of the lines that are to come.
-fn put_table<A: Allocator + Clone, B: Allocator, C: Allocator, R: Read + Drop, W: Write, H: Watch>(
+/// Writes the table of the lines that are to come. Where a stream has a deadline, who watches is told of it row by row.
+fn put_lines<A: Allocator + Clone, B: Allocator, C: Allocator, R: Read + Drop, W: Write, H: Watch>(
     port: &mut RunningPort<A>,
-    arrivals: &mut Arrivals<A>,
+    rows: &mut RowWriter<'_, A, C>,
     lines: &mut LineReader<R, B>,
     until: Option<u128>,
-    streams: &Option<Streams<C>>,
     writer: &mut W,
     watch: &mut H,
 ) -> Result<(), RunFault>
-    ensures { (read : List (List ℕ) → Result Command TcFault) → IsReader read → IfSome (script_left R.remaining lines.old) (λ script.
-        RunsOut result (W.contents writer.old) (W.contents writer.new) (with_head streams.now (table_from streams.now read until script port.old.port arrivals.old))) }
+    ensures table { (read : List (List ℕ) → Result Command TcFault) → IsReader read → IfSome (script_left R.remaining lines.old) (λ script.
+        RunsOut result (W.contents writer.old) (W.contents writer.new) (table_from rows.old.streams.now read until script port.old.port rows.old.arrivals)) }
+    ensures alerts { has_column rows.old.streams.now ≡ false → (read : List (List ℕ) → Result Command TcFault) → IsReader read → IfSome (script_left R.remaining lines.old) (λ script.
+        Watched H.alerted (alerts_of (told_of (reading_of read script).requests port.old.port)) result watch.old watch.new) }
 {
-    put_head(streams, writer)?;
-    run_lines(port, arrivals, lines, until, streams, writer, watch)
+    if has_column(rows.streams) {
+        let streams = rows.streams;
+        return run_lines(
+            port,
+            &mut rows.arrivals,
+            lines,
+            until,
+            streams,
+            writer,
+            watch,
+        );
+    }
+    walk_rows(port, rows, lines, until, writer, watch)
+}
+
+/// Writes the head of the table, and then the table of the lines that are to come.
+fn put_table<A: Allocator + Clone, B: Allocator, C: Allocator, R: Read + Drop, W: Write, H: Watch>(
+    port: &mut RunningPort<A>,
+    rows: &mut RowWriter<'_, A, C>,
+    lines: &mut LineReader<R, B>,
+    until: Option<u128>,
+    writer: &mut W,
+    watch: &mut H,
+) -> Result<(), RunFault>
+    ensures table { (read : List (List ℕ) → Result Command TcFault) → IsReader read → IfSome (script_left R.remaining lines.old) (λ script.
+        RunsOut result (W.contents writer.old) (W.contents writer.new) (with_head rows.old.streams.now (table_from rows.old.streams.now read until script port.old.port rows.old.arrivals))) }
+    ensures alerts { has_column rows.old.streams.now ≡ false → (read : List (List ℕ) → Result Command TcFault) → IsReader read → IfSome (script_left R.remaining lines.old) (λ script.
+        Watched H.alerted (alerts_of (told_of (reading_of read script).requests port.old.port)) result watch.old watch.new) }
+{
+    put_head(rows.streams, writer)?;
+    put_lines(port, rows, lines, until, writer, watch)
 }
 
 /// Reads a script to its end, and writes a table of its frames, with a column of the streams where they are given.
@@ -306,8 +343,9 @@ pub(crate) fn run_with<A: Allocator, B: Allocator, R: Read + Drop, W: Write, H: 
     settings: Settings,
     watch: &mut H,
 ) -> Result<(), RunFault>
-    ensures { (read : List (List ℕ) → Result Command TcFault) → IsReader read → IfSome (R.remaining reader) (λ input.
+    ensures table { (read : List (List ℕ) → Result Command TcFault) → IsReader read → IfSome (R.remaining reader) (λ input.
         RunsOut result (W.contents writer.old) (W.contents writer.new) (frames_by streams.now read settings input)) }
+    ensures watched { has_column streams.now ≡ false → IsWatchedFrames H.alerted settings (R.remaining reader) result watch.old watch.new }
 {
     let rate = settings.rate();
     // For the prover: the getter says within which limits a rate lies.
@@ -316,16 +354,16 @@ pub(crate) fn run_with<A: Allocator, B: Allocator, R: Read + Drop, W: Write, H: 
     let Ok(mut port) = RunningPort::new(&alloc, rate, mtu, settings.room()) else {
         return Err(RunFault::Memory);
     };
-    let Ok(mut arrivals) = Arrivals::new(&&alloc) else {
+    let Ok(arrivals) = Arrivals::new(&&alloc) else {
         return Err(RunFault::Memory);
     };
+    let mut rows = RowWriter { arrivals, streams };
     let mut lines = LineReader::new(&alloc, reader)?;
     put_table(
         &mut port,
-        &mut arrivals,
+        &mut rows,
         &mut lines,
         settings.until(),
-        streams,
         writer,
         watch,
     )
@@ -337,8 +375,8 @@ pub(crate) fn run_with<A: Allocator, B: Allocator, R: Read + Drop, W: Write, H: 
 ///
 /// A malformed line ends the run after the rows of the lines before it; what waits then has no row. What was written is
 /// let out before more input is waited for. A read or a write that fails, or takes nothing, isn't tried again. Of the
-/// frames only those that wait are kept. Who watches is called for a malformed line, for one that is skipped, and for
-/// each that begins with `tc` and changes nothing.
+/// frames only those that wait are kept. Who watches is called for a malformed line, for one that is skipped, for each
+/// that begins with `tc` and changes nothing, and for each frame that is dropped.
 pub fn run_frames<A: Allocator, R: Read + Drop, W: Write, H: Watch>(
     alloc: A,
     reader: R,
@@ -346,8 +384,9 @@ pub fn run_frames<A: Allocator, R: Read + Drop, W: Write, H: Watch>(
     settings: Settings,
     watch: &mut H,
 ) -> Result<(), RunFault>
-    ensures { (read : List (List ℕ) → Result Command TcFault) → IsReader read → IfSome (R.remaining reader) (λ input.
+    ensures table { (read : List (List ℕ) → Result Command TcFault) → IsReader read → IfSome (R.remaining reader) (λ input.
         RunsOut result (W.contents writer.old) (W.contents writer.new) (frames_of read settings input)) }
+    ensures watched { IsWatchedFrames H.alerted settings (R.remaining reader) result watch.old watch.new }
 {
     let none: Option<Streams<A>> = None;
     run_with(alloc, &none, reader, writer, settings, watch)

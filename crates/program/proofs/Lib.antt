@@ -1,2 +1,3 @@
+mod AlertLaws
 mod NameLaws
 mod ToldLaws

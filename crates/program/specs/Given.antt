@@ -33,9 +33,13 @@ use Rattle.stream_bounds.specs.declared.settings.BoundsValue.{BoundsValue}
 abbrev pub flag_in : List ℕ → Found → Bool
 flag_in name found = option_map_or (λ text. bytes_eq text (codes "true")) (first_value found name) false
 
+-- whether a frame that is dropped or left counts for a strict run
+abbrev pub looks_at_frames : Found → Bool
+looks_at_frames found = flag_in (codes "strict-frames") found
+
 -- whether the run is strict: `--strict-frames` asks for all that `--strict` asks for
 abbrev pub is_strict : Found → Bool
-is_strict found = if flag_in (codes "strict-frames") found then true else flag_in (codes "strict") found
+is_strict found = if looks_at_frames found then true else flag_in (codes "strict") found
 
 -- the text of an output that is one of the inputs
 abbrev pub over_input_text : List ℕ → List ℕ

@@ -25,6 +25,7 @@ use Rattle.replay.specs.Texts.{open_text}
 use Rattle.replay.specs.Words.{IsReplayEnding, got}
 use Rattle.replay.specs.declared.stamps.Stamp.{Stamp}
 use Rattle.program.specs.Given.{IsGivenBounds, IsGivenFrames, IsGivenStreams, bounds_in, draws_in, checks_in, from_in, is_strict, over_input_text, settings_in, stamp_in}
+use Rattle.program.specs.Strict.{IsStrictEnding}
 use Rattle.program.specs.Table.{name_of, program_app}
 use Rattle.program.specs.declared.job_name.JobName.{JobName}
 use Rattle.program.specs.declared.job_name.JobName.TheVariants as Names
@@ -88,12 +89,13 @@ abbrev pub IsJudged : Bool → Ended → Ended → Type 0
 IsJudged strict run ended =
     (ended ≡ run) ⊎ ((strict ≡ true) × (run.status ≡ 0) × (ended ≡ record { status = 1; told = run.told }))
 
--- The end of a job whose fault's text is kept until it is told.
+-- The end of a job whose fault's text is kept until it is told, and which is judged by what it found.
 pub record IsWatchedEnding (job : JobName) (found : Found) (input : Option (List ℕ)) (ended : Ended) (old new : Option (List ℕ)) : Type 0 where
   pub run : Ended
   pub text : List ℕ
   pub ending : IsJobEnding job found input run old new (Some []) (Some text)
   pub judged : IsJudged (is_strict found) run ended
+  pub strict : IsStrictEnding job found input run ended
 
 -- a text that is written and let out, or else a prefix of it is written
 abbrev pub Tells : Bool → Option (List ℕ) → Option (List ℕ) → List ℕ → Type 0

@@ -5,11 +5,14 @@ ghost use Rattle.octet_writer.specs.Buffered.{writer_buffer, writer_contents};
 ghost use Rattle.clap.specs.Values.{kind_of};
 ghost use Rattle.clap.specs.Matches.{found_of, subcommand_name_of};
 ghost use Rattle.program.specs.Jobs.{IsFound, IsJobEnding, IsProgramEnding, IsHelp, IsRefusedBy, IsUsage, IsWatchedEnding, Tells};
+ghost use Rattle.program.specs.Strict.{IsWatchedJob};
+ghost use Rattle.schedule_check.specs.Alerts as Checks;
 ghost use Rattle.schedule_check.specs.Checked.{whole_check};
 ghost use Rattle.schedule_check.specs.Windows.{IsTeller, Teller};
 ghost use Rattle.drawing.specs.PictureEnd.{IsDrawEnding};
 ghost use Rattle.program.specs.Table.{name_of};
 ghost use Rattle.program.specs.Given.{checks_in, draws_in, settings_in};
+ghost use Rattle.script.specs.Alerts as Scripts;
 ghost use Rattle.script.specs.ScriptEnd.{IsEnding, whole_script};
 ghost use Rattle.wire_time.specs.Moment.{greatest_moment};
 
@@ -47,6 +50,7 @@ pub fn answer_given<B: Allocator, R: Read, W: Write + Drop, E: Errors, H: Watch>
 ) -> (Ended, W)
     ensures ending { IsEnding whole_script (settings_in greatest_moment (found_of matches.now))
         (R.remaining reader.old) result.0 (writer_contents W.contents answers) (W.contents result.1) (E.contents errors.old) (E.contents errors.new) }
+    ensures watched { Scripts.IsWatchedEnding H.alerted (settings_in greatest_moment (found_of matches.now)) (R.remaining reader.old) result.0 watch.old watch.new }
     ensures unread { IfErr (settings_in greatest_moment (found_of matches.now)) (λ _. reader.new ≡ reader.old) }
 {
     answer_script(alloc, values_of(matches), reader, answers, errors, watch)
@@ -64,6 +68,7 @@ pub fn check_given<B: Allocator, R: Read, W: Write + Drop, E: Errors, H: Watch>(
 ) -> (Ended, W)
     ensures ending { (tell : Teller) → IsTeller tell → IsEnding (whole_check tell) (checks_in (found_of matches.now))
         (R.remaining reader.old) result.0 (writer_contents W.contents answers) (W.contents result.1) (E.contents errors.old) (E.contents errors.new) }
+    ensures watched { Checks.IsWatchedEnding H.alerted (checks_in (found_of matches.now)) (R.remaining reader.old) result.0 watch.old watch.new }
     ensures unread { IfErr (checks_in (found_of matches.now)) (λ _. reader.new ≡ reader.old) }
 {
     answer_check(alloc, checks_of(matches), reader, answers, errors, watch)
@@ -158,7 +163,8 @@ fn answer_job<F: Files, B: Allocator, R: Read, W: Write + Drop, E: Errors, H: Wa
     errors: &mut E,
     watch: &mut H,
 ) -> (Ended, W)
-    ensures { IsJobEnding name (found_of matches.now) (R.remaining reader.old) result.0 (writer_contents W.contents answers) (W.contents result.1) (E.contents errors.old) (E.contents errors.new) }
+    ensures ending { IsJobEnding name (found_of matches.now) (R.remaining reader.old) result.0 (writer_contents W.contents answers) (W.contents result.1) (E.contents errors.old) (E.contents errors.new) }
+    ensures watched { IsWatchedJob H.alerted name (found_of matches.now) (R.remaining reader.old) result.0 watch.old watch.new }
 {
     match name {
         JobName::Script => answer_given(alloc, matches, reader, answers, errors, watch),
@@ -169,6 +175,24 @@ fn answer_job<F: Files, B: Allocator, R: Read, W: Write + Drop, E: Errors, H: Wa
         JobName::Draw => draw_given(alloc, matches, reader, answers, errors, watch),
         JobName::Frames => frames_given(files, alloc, matches, reader, answers, errors, watch),
     }
+}
+
+/// Reports the fault of a job that ended like this, if it has one, but not where nobody reads the answers any more.
+fn report_fault<F: Files, C: Clock, P: Write + Drop, E: Write>(
+    files: &F,
+    matches: &ArgMatches<'_>,
+    text: &FaultText,
+    ended: Ended,
+    is_closed: bool,
+    onlooker: &mut Onlooker<'_, '_, C, P, E>,
+)
+    ensures { onlooker.new.found ≡ onlooker.old.found }
+{
+    if ended.status == 4 && is_closed {
+        return;
+    }
+    let capture = first_octets(files, matches, text);
+    onlooker.report(text, capture.as_slice());
 }
 
 /// Answers a job, and reports on standard error how it ended, but not where nobody reads the answers any more.
@@ -209,13 +233,15 @@ fn answer_watched<
         &mut text,
         &mut onlooker,
     );
-    if ended.status == 0 {
-        onlooker.warn_of_nothing(name, writer.is_written());
-    }
-    if ended.status != 4 || !writer.is_closed() {
-        let capture = first_octets(files, matches, &text);
-        onlooker.report(&text, capture.as_slice());
-    }
+    onlooker.warn_of_nothing(name, ended, writer.is_written());
+    report_fault(
+        files,
+        matches,
+        &text,
+        ended,
+        writer.is_closed(),
+        &mut onlooker,
+    );
     (looks.judged(ended, onlooker.has_found()), writer)
 }
 

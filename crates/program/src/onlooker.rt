@@ -96,7 +96,9 @@ pub(crate) struct Looks {
 }
 
 impl Looks {
+    ghost use Rattle.std.specs.Prelude.{◌≡◌};
     ghost use Rattle.program.specs.Jobs.{IsJudged};
+    ghost use Rattle.program.specs.Strict.{status_by};
 
     /// Whether what is no fault, and is perhaps not meant, is looked for.
     fn warns(&self) -> bool {
@@ -105,7 +107,8 @@ impl Looks {
 
     /// How a run ends that ended like this: a strict one that has found something with status 1.
     pub fn judged(&self, ended: Ended, found: bool) -> Ended
-        ensures { IsJudged self.now.strict ended result }
+        ensures judged { IsJudged self.now.strict ended result }
+        ensures status { result.status ≡ status_by self.now.strict found ended.status }
     {
         if ended.status == 0 && self.strict && found {
             Ended { status: 1, ..ended }
@@ -123,9 +126,9 @@ pub(crate) struct Onlooker<'a, 'b, C: Clock, P: Write + Drop, E: Write> {
     looks: Looks,
     failures: u32,
     comments: u32,
-    frames: u32,
+    found: bool,
+    has_frames: bool,
     came: bool,
-    warned: bool,
     has_deadlines: bool,
     judged: bool,
     missed: bool,
@@ -134,22 +137,28 @@ pub(crate) struct Onlooker<'a, 'b, C: Clock, P: Write + Drop, E: Write> {
 }
 
 impl<'a, 'b, C: Clock, P: Write + Drop, E: Write> Onlooker<'a, 'b, C, P, E> {
+    ghost use Rattle.std.specs.Prelude.{◌≡◌, ◌||◌, false, true};
+    ghost use Rattle.program.specs.Strict.{may_find_nothing};
+
     /// Nothing is found.
     pub fn new(
         alloc: Global,
         progress: &'a mut Progress<'b, C, P>,
         errors: &'a mut E,
         looks: Looks,
-    ) -> Onlooker<'a, 'b, C, P, E> {
+    ) -> Onlooker<'a, 'b, C, P, E>
+        ensures found { result.found ≡ false }
+        ensures looks { result.looks ≡ looks }
+    {
         Onlooker {
             progress,
             errors,
             looks,
             failures: 0,
             comments: 0,
-            frames: 0,
+            found: false,
+            has_frames: false,
             came: false,
-            warned: false,
             has_deadlines: false,
             judged: false,
             missed: false,
@@ -160,22 +169,35 @@ impl<'a, 'b, C: Clock, P: Write + Drop, E: Write> Onlooker<'a, 'b, C, P, E> {
 
     /// Whether something was found for which a strict run ends with status 1: a command changed nothing, a warning was
     /// given, a frame that has a deadline wasn't in time, or one was dropped or left where that is looked for.
-    pub fn has_found(&self) -> bool {
-        self.failures > 0 || self.warned || self.missed || self.frames > 0
+    pub fn has_found(&self) -> bool
+        ensures { result ≡ self.now.found }
+    {
+        self.found
     }
 
-    /// Counts a finding about frames, where they are looked at, and answers whether it is the first.
-    fn is_first_of_frames(&mut self) -> bool {
+    /// Notes a finding about frames, where they are looked at, and answers whether it is the first.
+    fn is_first_of_frames(&mut self) -> bool
+        ensures looks { self.new.looks ≡ self.old.looks }
+        ensures found { self.new.found ≡ (self.old.found || self.old.looks.frames) }
+    {
         if !self.looks.frames {
             return false;
         }
-        self.frames = self.frames.saturating_add(1);
-        self.frames == 1
+        let is_first = !self.has_frames;
+        self.has_frames = true;
+        self.found = true;
+        is_first
     }
 
-    /// Warns where a job has answered all, and there was nothing for it to look at: no command, no frame, or no frame with
-    /// a deadline. A check without a command has written nothing.
-    pub fn warn_of_nothing(&mut self, name: JobName, is_written: bool) {
+    /// Warns where a job has answered all, which ended like this, and there was nothing for it to look at: no command, no
+    /// frame, or no frame with a deadline. A check without a command has written nothing.
+    pub fn warn_of_nothing(&mut self, name: JobName, ended: Ended, is_written: bool)
+        ensures kept { self.old.found ≡ true → self.new.found ≡ true }
+        ensures same { may_find_nothing name self.old.looks.frames ≡ false → self.new.found ≡ self.old.found }
+    {
+        if ended.status != 0 {
+            return;
+        }
         match name {
             JobName::Script | JobName::Replay => self.warn_of_no_frame(),
             JobName::Frames => self.warn_of_none_judged(),
@@ -189,38 +211,47 @@ impl<'a, 'b, C: Clock, P: Write + Drop, E: Write> Onlooker<'a, 'b, C, P, E> {
     }
 
     /// Warns of an input without a schedule command, where that is wanted.
-    fn warn_of_no_command(&mut self) {
+    fn warn_of_no_command(&mut self)
+        ensures { self.old.found ≡ true → self.new.found ≡ true }
+    {
         if !self.looks.warns() {
             return;
         }
-        self.warned = true;
+        self.found = true;
         let _ = put_no_command(self.errors);
         let _ = self.errors.flush();
     }
 
     /// Warns where no frame came, where frames are looked at and nothing else was found.
-    fn warn_of_no_frame(&mut self) {
+    fn warn_of_no_frame(&mut self)
+        ensures kept { self.old.found ≡ true → self.new.found ≡ true }
+        ensures same { self.old.looks.frames ≡ false → self.new.found ≡ self.old.found }
+    {
         if !self.looks.frames || self.came || self.has_found() {
             return;
         }
-        self.warned = true;
+        self.found = true;
         let _ = put_no_frame(self.errors);
         let _ = self.errors.flush();
     }
 
     /// Warns where streams that were read have deadlines, and no frame was judged by one, where that is wanted.
-    fn warn_of_none_judged(&mut self) {
+    fn warn_of_none_judged(&mut self)
+        ensures { self.old.found ≡ true → self.new.found ≡ true }
+    {
         if !self.looks.warns() || !self.has_deadlines || self.judged {
             return;
         }
-        self.warned = true;
+        self.found = true;
         let _ = put_none_judged(self.errors);
         let _ = self.errors.flush();
     }
 
     /// Looks at a line that the job didn't: whether it is a malformed command, or a comment where a command was perhaps
     /// meant.
-    fn look_at(&mut self, number: u32, line: &[u8]) {
+    fn look_at(&mut self, number: u32, line: &[u8])
+        ensures { self.new.looks.frames ≡ self.old.looks.frames }
+    {
         if Words::new(line).next_word() != Some(b"tc".as_slice()) {
             self.look_at_comment(number, line);
         } else if let Err(fault) = read_tc(line) {
@@ -229,7 +260,10 @@ impl<'a, 'b, C: Clock, P: Write + Drop, E: Write> Onlooker<'a, 'b, C, P, E> {
     }
 
     /// Explains a comment where a command was perhaps meant.
-    fn look_at_comment(&mut self, number: u32, line: &[u8]) {
+    fn look_at_comment(&mut self, number: u32, line: &[u8])
+        ensures looks { self.new.looks ≡ self.old.looks }
+        ensures found { self.new.found ≡ self.old.found }
+    {
         let mut words = Words::new(line);
         let is_meant = words.next_word() == Some(b"#".as_slice())
             && words.next_word() == Some(b"tc".as_slice());
@@ -242,7 +276,9 @@ impl<'a, 'b, C: Clock, P: Write + Drop, E: Write> Onlooker<'a, 'b, C, P, E> {
 
     /// Reports a fault, if there is one, and what helps with it, where that is wanted. A capture begins with these
     /// octets, where they are known.
-    pub fn report(&mut self, fault: &FaultText, capture: &[u8]) {
+    pub fn report(&mut self, fault: &FaultText, capture: &[u8])
+        ensures { self.new.found ≡ self.old.found }
+    {
         let _ = put(self.errors, fault.text.as_slice());
         if let Some(kind) = fault.kind {
             if self.looks.explain {
@@ -254,9 +290,10 @@ impl<'a, 'b, C: Clock, P: Write + Drop, E: Write> Onlooker<'a, 'b, C, P, E> {
 }
 
 impl<C: Clock, P: Write + Drop, E: Write> Watch for Onlooker<'_, '_, C, P, E> {
-    ghost use Rattle.std.specs.Prelude.{⊤};
+    ghost use Rattle.program.specs.Strict.{IsSeen};
+    ghost use Rattle.program.specs.StrictLaws.{none_seen, both_seen};
 
-    ghost alerted = { λ alerts s t. ⊤ };
+    ghost alerted = { λ alerts s t. IsSeen alerts s.looks.frames s.found t.looks.frames t.found };
 
     #[inline(always)]
     fn records_taken(&mut self, records: u32, moment: u128) {
@@ -267,6 +304,7 @@ impl<C: Clock, P: Write + Drop, E: Write> Watch for Onlooker<'_, '_, C, P, E> {
         let explain = self.looks.explain && self.failures < EXPLAINED;
         let told = explain || (self.looks.strict && self.failures == 0);
         self.failures = self.failures.saturating_add(1);
+        self.found = true;
         if told {
             let _ = put_failure(self.errors, number, line, why, explain);
             let _ = self.errors.flush();
@@ -329,7 +367,7 @@ impl<C: Clock, P: Write + Drop, E: Write> Watch for Onlooker<'_, '_, C, P, E> {
             return;
         };
         if let Some(earlier) = self.ids.take(later) {
-            self.warned = true;
+            self.found = true;
             let _ = put_shared_ids(self.errors, &earlier, &later, self.looks.explain);
             let _ = self.errors.flush();
         }
@@ -342,13 +380,14 @@ impl<C: Clock, P: Write + Drop, E: Write> Watch for Onlooker<'_, '_, C, P, E> {
         };
         let told = self.looks.strict && !self.missed;
         self.missed = true;
+        self.found = true;
         if told {
             let _ = put_missed(self.errors, id, stream, why);
             let _ = self.errors.flush();
         }
     }
 
-    ghost nothing = { λ s. tt };
+    ghost nothing = { λ s. none_seen s.looks.frames s.found };
 
-    ghost both = { λ xs ys s t u a b. tt };
+    ghost both = { λ xs ys s t u a b. both_seen xs ys s.looks.frames t.looks.frames u.looks.frames s.found t.found u.found a b };
 }

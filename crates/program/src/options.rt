@@ -5,7 +5,7 @@ ghost use Rattle.clap.specs.Words.{IsPlainArg, app_of, first_value, found_of, ru
 ghost use Rattle.clap.specs.declared.builder.command.Command.TheViews.{out-Command as fields_of};
 ghost use Rattle.drawing.specs.Given.{words_of_draws};
 ghost use Rattle.script.specs.Given.{octets_of, words_of_values};
-ghost use Rattle.program.specs.Given.{draw_words_in, flag_in, is_strict, words_in};
+ghost use Rattle.program.specs.Given.{draw_words_in, flag_in, is_strict, looks_at_frames, words_in};
 ghost use Rattle.program.specs.Table.{free_rule, program_app, rule_of_word, shape_of_job};
 
 use crate::job_name::JobName;
@@ -80,7 +80,8 @@ pub(crate) fn bounds_of<'a>(matches: &ArgMatches<'a>) -> BoundsWords<'a>
 
 /// What a subcommand is asked to look at, where the standard error is a terminal or isn't.
 pub(crate) fn looks_of(matches: &ArgMatches<'_>, terminal: bool) -> Looks
-    ensures { result.strict ≡ is_strict (found_of matches.now) }
+    ensures strict { result.strict ≡ is_strict (found_of matches.now) }
+    ensures frames { result.frames ≡ looks_at_frames (found_of matches.now) }
 {
     let frames = is_given(matches, "strict-frames");
     Looks {
