@@ -21,7 +21,6 @@ use Rattle.delay_bounds.specs.declared.Unbound.TheVariants as Unbounds
 use Rattle.job.specs.declared.fault.Fault.{Fault}
 use Rattle.job.specs.declared.fault.Fault.TheVariants as Faults
 use Rattle.stream_bounds.specs.declared.faults.BoundsInput.{BoundsInput}
-use Rattle.stream_bounds.specs.declared.faults.BoundsInput.TheVariants as Inputs
 
 -- At Ok the whole text is written, and this was answered; after a failed write, or out of memory, a prefix of the text is.
 abbrev pub Tells : Result Answered (Fault BoundsInput) → Option (List ℕ) → Option (List ℕ) → List ℕ → Answered → Type 0
