@@ -1,4 +1,4 @@
-use Rattle.std.proofs.Common.{◌≡◌, ◌<◌, ◌≤◌, ℕ, ◌+◌, ◌^◌, arith}
+use Rattle.std.proofs.Common.{arith}
 use Rattle.delay_bounds.specs.Walk.{may_by}
 use Rattle.window_bounds.proofs.SendLaws.{one_more}
 use Rattle.window_bounds.proofs.late_run.free_behind.Goals as goal
