@@ -1,4 +1,4 @@
-use Rattle.std.proofs.Common.{◌≡◌, ◌≤◌, ℕ, ◌+◌, ◌-◌, ◌*◌, subst, arith}
+use Rattle.std.proofs.Common.{◌≡◌, ℕ, ◌+◌, ◌-◌, ◌*◌, subst, arith}
 use Rattle.delay_bounds.specs.Walk.{may_by}
 use Rattle.window_bounds.specs.Slots.{IsFreeBehind}
 use Rattle.window_bounds.proofs.SendLaws.{row_behind, stays_each}

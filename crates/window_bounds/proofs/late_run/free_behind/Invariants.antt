@@ -1,4 +1,4 @@
-use Rattle.std.proofs.Common.{◌≡◌, ◌≤◌, ◌-◌, ◌^◌, None}
+use Rattle.std.proofs.Common.{◌≤◌, ◌-◌, ◌^◌, None}
 use Rattle.list_position.specs.Position.{StoodBy}
 use Rattle.delay_bounds.specs.Walk.{may_by}
 use Rattle.window_bounds.specs.Slots.{IsFreeBehind}
