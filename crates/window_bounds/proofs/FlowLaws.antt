@@ -1,5 +1,5 @@
 -- Flows as talkers, and their longest need.
-use Rattle.std.proofs.Common.{◌≡◌, ◌<◌, ◌≤◌, ℕ, zero, suc, ◌+◌, ◌*◌, ◌/◌, ◌%◌, max, All, List, [], ◌∷◌, length, map, get_or, drop, slice_get, Some, refl, sym, ap, ◌∙◌, subst, arith, drop_of_length-le}
+use Rattle.std.proofs.Common.{◌≡◌, ◌<◌, ◌≤◌, ℕ, zero, suc, ◌+◌, ◌%◌, max, All, List, [], ◌∷◌, length, drop, refl, sym, ap, ◌∙◌, subst, arith, drop_of_length-le}
 use Rattle.std.proofs.Math.Nat.{mul-mod_right}
 use Rattle.std.proofs.lemmas.List.{get_or-map, length-map}
 use Rattle.std.proofs.lemmas.List.Elements.{All-map}
@@ -8,7 +8,7 @@ use Rattle.any_traffic.specs.PeriodicWindows.{ArePeriodic, PeriodicFlow}
 use Rattle.burst_bounds.specs.Reach.{IsCommonTime}
 use Rattle.burst_bounds.specs.Talkers.{IsTalker}
 use Rattle.burst_bounds.specs.declared.Talker.{Talker}
-use Rattle.window_bounds.specs.Flows.{IsFlow, flows_of, longest_need, periodic_of, talker_of, talkers_of}
+use Rattle.window_bounds.specs.Flows.{IsFlow, flows_of, longest_need, talker_of, talkers_of}
 use Rattle.window_bounds.specs.Least.{IsRepeat}
 use Rattle.window_bounds.specs.Notes.{jittered_at}
 use Rattle.window_bounds.specs.declared.JitteredFlow.{JitteredFlow}

@@ -1,5 +1,5 @@
 -- The least wait of a flow: that of finitely many of its frames, by where in a cycle they come.
-use Rattle.std.proofs.Common.{Some, None, ◌≡◌, ◌<◌, ◌≤◌, ℕ, zero, suc, ◌+◌, ◌-◌, ◌*◌, ◌/◌, ◌%◌, min, Bool, inl, inr, refl, sym, ap, ◌∙◌, subst, arith, mul-add}
+use Rattle.std.proofs.Common.{Some, None, ◌≡◌, ◌<◌, ◌≤◌, ℕ, zero, suc, ◌+◌, ◌-◌, ◌*◌, ◌/◌, ◌%◌, min, Bool, inl, inr, sym, ap, ◌∙◌, subst, arith, mul-add}
 use Rattle.std.proofs.Math.Nat.{add-mod-mod, div-add-mod, mod-add-mod}
 use Rattle.std.proofs.lemmas.Bool.{cases_lt}
 use Rattle.gate_list.specs.Gate.{IsSchedule, Plan, in_ps}

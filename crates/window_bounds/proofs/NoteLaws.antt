@@ -1,5 +1,5 @@
 -- What is noted of the frames whose latest moment is t.
-use Rattle.std.proofs.Common.{◌≡◌, ◌<◌, ◌≤◌, ◌⊎◌, ℕ, zero, suc, ◌+◌, ◌-◌, ◌*◌, max, Bool, true, false, if◌then◌else◌, inl, inr, List, length, map, get_or, option_map, slice_get, Some, refl, sym, ap, ◌∙◌, subst, arith, eqb, eq-eqb, ne_eqb, mul-add}
+use Rattle.std.proofs.Common.{◌≡◌, ◌<◌, ◌≤◌, ◌⊎◌, ℕ, ◌+◌, ◌-◌, ◌*◌, Bool, if◌then◌else◌, inl, inr, List, length, map, get_or, option_map, slice_get, Some, sym, ap, ◌∙◌, subst, arith, eq-eqb, ne_eqb, mul-add}
 use Rattle.std.proofs.lemmas.Bool.{cases_lt}
 use Rattle.std.proofs.lemmas.List.{get_or-map, length-map}
 use Rattle.std.proofs.lemmas.Option.{get_or_from_slice_get, same_Some, slice_get-get_or, slice_get-map, slice_get_within}

@@ -1,29 +1,20 @@
 -- One step of the late run.
-use Rattle.std.proofs.Common.{◌≡◌, ◌<◌, ◌≤◌, ◌⊎◌, ℕ, zero, suc, ◌+◌, ◌-◌, ◌*◌, ◌^◌, max, min, Bool, inl, inr, All, List, [], ◌∷◌, length, map, get_or, slice_get, Some, refl, sym, ap, ◌∙◌, subst, arith, le_refl}
-use Rattle.std.specs.Prelude.{sum_by}
+use Rattle.std.proofs.Common.{◌≡◌, ◌<◌, ◌≤◌, ℕ, zero, suc, ◌+◌, ◌-◌, ◌^◌, max, Bool, inl, inr, List, [], ◌∷◌, map, refl, sym, ap, subst, arith, le_refl}
 use Rattle.std.proofs.lemmas.Bool.{cases_lt}
-use Rattle.std.proofs.lemmas.List.Sums.{get_or-le-sum_by, sum_by-cons}
-use Rattle.wire_time.specs.Moment.{greatest_moment}
-use Rattle.gate_list.specs.Gate.{Plan}
-use Rattle.separation.specs.Served.{IsFirst}
-use Rattle.delay_bounds.specs.Walk.{may_by}
+use Rattle.std.proofs.lemmas.List.Sums.{sum_by-cons}
 use Rattle.any_traffic.specs.PeriodicRoom.{IsLateFrame}
-use Rattle.any_traffic.specs.PeriodicWindows.{AreSent, IsFreeFrom, IsLateStart, PeriodicFlow, before, can_by, must_before}
+use Rattle.any_traffic.specs.PeriodicWindows.{AreSent, IsFreeFrom, PeriodicFlow, before, can_by, must_before}
 use Rattle.any_traffic.specs.Slots.{IsSlot}
-use Rattle.any_traffic.proofs.PeriodicWindowLaws.{HavePeriod, before_more, must_more}
+use Rattle.any_traffic.proofs.PeriodicWindowLaws.{HavePeriod, before_more}
 use Rattle.any_traffic.proofs.SlotLaws.{both_slots}
 use Rattle.burst_bounds.proofs.SlotLaws.{slot_from}
-use Rattle.window_bounds.specs.Beats.{AreAt, AreAtBy, IsBeat, all_before, all_from, capped, come_of, early_beat, from_on, late_beat}
-use Rattle.window_bounds.specs.Flows.{IsFlow, flows_of, periodic_of}
+use Rattle.window_bounds.specs.Beats.{all_before, come_of, early_beat, late_beat}
+use Rattle.window_bounds.specs.Flows.{flows_of, periodic_of}
 use Rattle.window_bounds.specs.Run.{IsMost, IsRun}
-use Rattle.window_bounds.specs.Slots.{HasSent, IsFreeBehind, IsUndone, IsUnsent}
-use Rattle.window_bounds.specs.Unbound.{IsEnded}
+use Rattle.window_bounds.specs.Slots.{HasSent, IsFreeBehind}
 use Rattle.window_bounds.specs.declared.JitteredFlow.{JitteredFlow}
-use Rattle.window_bounds.specs.declared.Unbound.{Unbound}
-use Rattle.window_bounds.specs.declared.Unbound.TheVariants.{Overloaded, Stuck, Long, Late, Memory}
 use Rattle.window_bounds.specs.declared.beats.Beat.{Beat}
 use Rattle.window_bounds.specs.declared.late_run.Run.{Run}
-use Rattle.window_bounds.proofs.BeatLaws.{HaveBeats, before_twice}
 
 -- ---- the counts of beats are those of flows
 

@@ -1,7 +1,11 @@
 -- Frames that are sent one behind another.
-use Rattle.std.proofs.Common.{◌≡◌, ◌<◌, ◌≤◌, ℕ, zero, suc, ◌+◌, ◌-◌, ◌^◌, max, Bool, inl, inr, All, List, refl, sym, ap, ◌∙◌, subst, arith}
+use Rattle.std.proofs.Common.{◌≡◌, ◌<◌, ◌≤◌, ℕ, zero, suc, ◌+◌, ◌-◌, ◌*◌, max, Bool, true, Some, None, add-mul, le_refl, inl, inr, All, List, refl, sym, ap, ◌∙◌, subst, arith}
+use Rattle.std.proofs.Math.Nat.{suc-mul}
 use Rattle.std.proofs.lemmas.Bool.{cases_lt}
+use Rattle.gate_list.specs.Gate.{Plan, mask_since}
+use Rattle.gate_list.proofs.OpenLaws.{open_within}
 use Rattle.separation.specs.Served.{IsFirst}
+use Rattle.delay_bounds.specs.Walk.{may_by}
 use Rattle.any_traffic.specs.Slots.{IsSlot}
 use Rattle.burst_bounds.proofs.SlotLaws.{slot_then}
 use Rattle.window_bounds.specs.Beats.{AreAt, AreAtBy, IsBeat, all_before, all_from, capped}
@@ -25,6 +29,23 @@ module _ (may : ℕ → ℕ → Bool) (d from : ℕ) where
 
   pub one_more : (n free s : ℕ) → IsFreeBehind may d from n free → IsFirst may d free s → IsFreeBehind may d from (n + 1) (s + d)
   one_more n free s h first = inr (n, s, omega arith, slot_of n free s h first, refl)
+
+  -- some more in a row, while the class stays open
+  pub row_behind : (n free at k : ℕ) → IsFreeBehind may d from n free → IsFirst may d free at
+      → ((j : ℕ) → j < k → may (at + j * d) d ≡ true) → 0 < k → IsFreeBehind may d from (n + k) (at + k * d)
+  row_behind n free at zero h first stays some = absurd (omega (arith, some))
+  row_behind n free at (suc zero) h first stays some =
+      let e : d ≡ 1 * d = omega arith in
+      subst (λ u. IsFreeBehind may d from (n + 1) (at + u)) e (one_more n free at h first)
+  row_behind n free at (suc (suc k)) h first stays some =
+      let rest = row_behind n free at (suc k) h first (λ j less. stays j (omega (arith, less))) (omega arith) in
+      let here : IsFirst may d (at + suc k * d) (at + suc k * d) =
+      record { from = le_refl (at + suc k * d); fits = stays (suc k) (omega arith); least = λ u low high. absurd (omega (arith, low, high)) } in
+      let parts : suc (suc k) * d ≡ suc k * d + d = suc-mul (suc k) d in
+      let count : n + suc k + 1 ≡ n + suc (suc k) = omega arith in
+      subst (λ m. IsFreeBehind may d from m (at + suc (suc k) * d)) count
+      (subst (IsFreeBehind may d from (n + suc k + 1)) (let e : at + suc k * d + d ≡ at + suc (suc k) * d = omega (arith, parts) in e)
+      (one_more (n + suc k) (at + suc k * d) (at + suc k * d) rest here))
 
   -- one more, by what is known of its start
   pub sent_next : (n limit : ℕ) (beats : List Beat) (old mid new : Run) (s : ℕ) → HasSent may d from n limit beats old mid → IsSlot may d from n s
@@ -76,3 +97,12 @@ at_next beats now next t s count passed total fine le at is many sum =
       are = is ∙ (ap (all_from (s + 1)) here.are ∙ from_twice u (s + 1) beats (periods_of beats fine) le');
       come = omega (arith, all, seen, many, sum, come);
     }
+
+-- a class that stays open for some frames in a row does so for each of them
+pub stays_each : (plan : Plan) (class d at k : ℕ) → may_by plan class at (k * d) ≡ true → (j : ℕ) → j < k → may_by plan class (at + j * d) d ≡ true
+stays_each plan class d at k fits j less =
+    let whole : suc j + (k - suc j) ≡ k = omega (arith, less) in
+    let parts : (suc j + (k - suc j)) * d ≡ suc j * d + (k - suc j) * d = add-mul (suc j) (k - suc j) d in
+    let all = ap (λ n. n * d) whole in
+    let one : suc j * d ≡ j * d + d = suc-mul j d in
+    open_within (mask_since (Some plan) 0 None) class at (k * d) (at + j * d) d fits (omega arith) (omega (arith, parts, all, one))

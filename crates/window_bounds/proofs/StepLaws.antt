@@ -1,19 +1,18 @@
 -- What is so when the frames of one latest moment are sent.
-use Rattle.std.proofs.Common.{◌≡◌, ◌<◌, ◌≤◌, ℕ, zero, suc, ◌+◌, ◌-◌, ◌^◌, max, Bool, inl, inr, All, List, length, map, get_or, slice_get, Some, refl, sym, ap, ◌∙◌, subst, arith}
+use Rattle.std.proofs.Common.{◌≡◌, ◌<◌, ◌≤◌, ℕ, zero, suc, ◌+◌, ◌-◌, ◌^◌, max, Bool, inl, inr, All, List, length, map, refl, ap, subst, arith}
 use Rattle.std.proofs.lemmas.List.Elements.{All-map}
 use Rattle.std.proofs.lemmas.List.Sums.{get_or-le-sum_by}
-use Rattle.std.proofs.lemmas.Option.{get_or_from_slice_get}
 use Rattle.wire_time.specs.Moment.{greatest_moment}
 use Rattle.gate_list.specs.Gate.{Plan}
 use Rattle.delay_bounds.specs.Walk.{may_by}
-use Rattle.any_traffic.specs.PeriodicWindows.{AreSent, IsLateStart, PeriodicFlow, can_by, must_before}
+use Rattle.any_traffic.specs.PeriodicWindows.{IsLateStart, PeriodicFlow, can_by, must_before}
 use Rattle.any_traffic.specs.Slots.{IsSlot}
 use Rattle.any_traffic.proofs.PeriodicWindowLaws.{HavePeriod}
 use Rattle.burst_bounds.proofs.SlotLaws.{slot_from}
 use Rattle.window_bounds.specs.Beats.{AreAt, AreAtBy, IsBeat, all_before, all_from, beat_at, capped, come_of, early_beat, late_beat}
-use Rattle.window_bounds.specs.Flows.{IsFlow, flows_of, periodic_of}
+use Rattle.window_bounds.specs.Flows.{IsFlow, flows_of}
 use Rattle.window_bounds.specs.Notes.{jittered_at}
-use Rattle.window_bounds.specs.Run.{AreNoted, IsRun}
+use Rattle.window_bounds.specs.Run.{IsRun}
 use Rattle.window_bounds.specs.Slots.{HasSent, IsFreeBehind, IsUndone, IsUnsent}
 use Rattle.window_bounds.specs.Unbound.{IsEnded}
 use Rattle.window_bounds.specs.Walk.{IsWalkedTo}
@@ -22,7 +21,7 @@ use Rattle.window_bounds.specs.declared.Unbound.{Unbound}
 use Rattle.window_bounds.specs.declared.Unbound.TheVariants.{Overloaded, Stuck, Long, Late, Memory}
 use Rattle.window_bounds.specs.declared.beats.Beat.{Beat}
 use Rattle.window_bounds.specs.declared.late_run.Run.{Run}
-use Rattle.window_bounds.proofs.BeatLaws.{HaveBeats, before_one, before_twice}
+use Rattle.window_bounds.proofs.BeatLaws.{before_one, before_twice}
 use Rattle.window_bounds.proofs.NoteLaws.{flow_there}
 use Rattle.window_bounds.proofs.RunLaws.{behind_both, behind_from, can_is, few_can, frame_at, last_slot, must_can, must_is, run_next, sent_by}
 use Rattle.window_bounds.proofs.SendLaws.{at_next}

@@ -1,5 +1,5 @@
 -- How the walk goes from one latest moment to the next, and when the late run is as it was.
-use Rattle.std.proofs.Common.{◌≡◌, ◌<◌, ◌≤◌, ◌⊎◌, ℕ, zero, suc, ◌+◌, ◌-◌, ◌*◌, ◌/◌, ◌%◌, ◌^◌, max, Bool, inl, inr, All, List, [], ◌∷◌, length, map, get_or, replicate, slice_get, Option, Some, None, true, false, if◌then◌else◌, eqb, eq-eqb, ne_eqb, refl, sym, ap, ◌∙◌, subst, arith, le_refl}
+use Rattle.std.proofs.Common.{◌≡◌, ◌<◌, ◌≤◌, ◌⊎◌, ℕ, zero, suc, ◌+◌, ◌-◌, ◌*◌, ◌/◌, ◌%◌, ◌^◌, max, Bool, inl, inr, All, List, [], ◌∷◌, length, map, replicate, slice_get, Option, Some, None, true, false, if◌then◌else◌, eqb, eq-eqb, ne_eqb, refl, sym, ap, ◌∙◌, subst, arith}
 use Rattle.std.specs.Prelude.{IfSome}
 use Rattle.std.proofs.Math.Nat.{div-add-mod}
 use Rattle.std.proofs.lemmas.Bool.{cases_lt}
@@ -9,17 +9,16 @@ use Rattle.std.proofs.lemmas.Option.{same_Some}
 use Rattle.gate_list.specs.Gate.{Plan, in_ps}
 use Rattle.delay_bounds.specs.Walk.{may_by}
 use Rattle.delay_bounds.proofs.GateLaws.{by_repeats}
-use Rattle.any_traffic.specs.LateForEver.{AreWhole, LateRecurs}
+use Rattle.any_traffic.specs.LateForEver.{AreWhole}
 use Rattle.any_traffic.specs.PeriodicWindows.{AreSent, IsFreeFrom, PeriodicFlow, before, must_before, window_of}
 use Rattle.any_traffic.proofs.ListLaws.{none_here}
-use Rattle.any_traffic.proofs.PeriodicWindowLaws.{HavePeriod, before_is, before_of, must_more}
+use Rattle.any_traffic.proofs.PeriodicWindowLaws.{before_is, before_of, must_more}
 use Rattle.burst_bounds.specs.Reach.{IsCommonTime}
-use Rattle.burst_bounds.specs.Walk.{talker_at}
 use Rattle.burst_bounds.specs.declared.Talker.{Talker}
-use Rattle.window_bounds.specs.Beats.{AreAt, AreAtBy, IsBeat, all_before, all_from, beat_at, come_of, early_beat, from_on, late_beat}
+use Rattle.window_bounds.specs.Beats.{AreAt, IsBeat, all_before, all_from, beat_at, come_of, early_beat, from_on, late_beat}
 use Rattle.window_bounds.specs.Flows.{IsFlow, flows_of, periodic_of, talker_of, talkers_of}
 use Rattle.window_bounds.specs.Notes.{jittered_at}
-use Rattle.window_bounds.specs.Run.{AreNoted, IsMost, IsRun}
+use Rattle.window_bounds.specs.Run.{AreNoted, IsMost}
 use Rattle.window_bounds.specs.Walk.{HasCome, HaveBegun, IsAsItWas, IsBelow, IsMarked, IsWalkedTo, marked}
 use Rattle.window_bounds.specs.declared.JitteredFlow.{JitteredFlow}
 use Rattle.window_bounds.specs.declared.beats.Beat.{Beat}

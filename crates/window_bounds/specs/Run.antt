@@ -1,4 +1,4 @@
--- How far a walk over the frames has come, by their latest moments.
+-- The late run, as far as its frames have been walked.
 use Rattle.std.specs.Prelude.{◌≡◌, ◌<◌, ◌≤◌, ◌⊎◌, ℕ, ◌+◌, ◌^◌, Bool, List, length, slice_get, Some}
 use Rattle.any_traffic.specs.LateForEver.{AreLateWithin}
 use Rattle.any_traffic.specs.PeriodicRoom.{IsLateFrame}

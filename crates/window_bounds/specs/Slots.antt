@@ -1,5 +1,5 @@
 -- Frames that are sent one behind another.
-use Rattle.std.specs.Prelude.{◌≡◌, ◌<◌, ◌≤◌, ◌⊎◌, ℕ, suc, ◌+◌, Bool, List, IsTrue}
+use Rattle.std.specs.Prelude.{◌≡◌, ◌<◌, ◌≤◌, ◌⊎◌, ℕ, suc, ◌+◌, Bool, List}
 use Rattle.wire_time.specs.Moment.{greatest_moment}
 use Rattle.gate_list.specs.Gate.{Plan}
 use Rattle.delay_bounds.specs.Walk.{may_by}
@@ -7,7 +7,7 @@ use Rattle.any_traffic.specs.Slots.{IsSlot}
 use Rattle.burst_bounds.specs.Unbound.{IsStuck}
 use Rattle.window_bounds.specs.Beats.{all_before}
 use Rattle.window_bounds.specs.declared.Unbound.{Unbound}
-use Rattle.window_bounds.specs.declared.Unbound.TheVariants.{Overloaded, Stuck, Long, Late, Memory}
+use Rattle.window_bounds.specs.declared.Unbound.TheVariants.{Stuck, Long, Late}
 use Rattle.window_bounds.specs.declared.beats.Beat.{Beat}
 use Rattle.window_bounds.specs.declared.late_run.Run.{Run}
 

@@ -1,9 +1,9 @@
 //! The late run: each frame comes at its latest moment, and needs the wire for as long as the longest one.
 
-ghost use Rattle.std.specs.Prelude.{◌≡◌, ◌<◌, ◌≤◌, ◌+◌, ◌^◌, All, List, None, IfErr, IfOk};
+ghost use Rattle.std.specs.Prelude.{◌≡◌, ◌<◌, ◌≤◌, ◌+◌, ◌*◌, ◌^◌, All, List, None, true, IfErr, IfOk};
 ghost use Rattle.wire_time.specs.Moment.{greatest_moment};
 ghost use Rattle.gate_list.specs.Gate.{IsSchedule};
-ghost use Rattle.list_position.specs.Position.{StoodBy};
+ghost use Rattle.list_position.specs.Position.{IsPlaced, StoodBy};
 ghost use Rattle.delay_bounds.specs.Walk.{may_by};
 ghost use Rattle.window_bounds.specs.Beats.{AreAtBy, IsBeat};
 ghost use Rattle.window_bounds.specs.Slots.{HasSent, IsFreeBehind, IsUndone, IsUnsent};
@@ -13,8 +13,8 @@ use crate::Unbound;
 use crate::beats::{Beat, pass};
 use crate::slots::next_slot;
 use gate_list::Schedule;
-use list_position::Position;
-use wire_time::CLASSES;
+use list_position::{Need, Position};
+use wire_time::{CLASSES, MAX_MOMENT};
 
 /// How far the late run has come.
 #[derive(Clone, Copy)]
@@ -82,6 +82,44 @@ pub fn send(
     Ok(next)
 }
 
+/// How many frames may be sent one behind another from a moment on, as far as the entry shows that is in force then; at
+/// most so many.
+fn in_a_row(
+    schedule: &Schedule,
+    position: &Position,
+    class: u8,
+    need: u128,
+    at: u128,
+    most: u128,
+) -> u128
+    requires sound { IsSchedule schedule.now }
+    requires placed { IsPlaced schedule.now 0 None at position.now }
+    requires class { class < CLASSES }
+    requires need { (0 < need) × (need ≤ greatest_moment) }
+    requires at { at ≤ 2 * greatest_moment }
+    requires one { may_by schedule.now class at need ≡ true }
+    requires some { 0 < most }
+    ensures some { (0 < result) × (result ≤ most) }
+    ensures fits { may_by schedule.now class at (result * need) ≡ true }
+    ensures short { result * need ≤ greatest_moment }
+{
+    let end = position.until(None).unwrap_or(u128::MAX);
+    let length = end.saturating_sub(at).min(MAX_MOMENT);
+    let frames = (length / need).min(most);
+    if frames < 2 {
+        return 1;
+    }
+    let need = Need {
+        class,
+        from: at,
+        length: frames * need,
+    };
+    if position.stays_open(schedule, None, need) {
+        return frames;
+    }
+    1
+}
+
 /// From when the wire is free behind so many frames more.
 pub fn free_behind(
     schedule: &Schedule,
@@ -102,12 +140,15 @@ pub fn free_behind(
 {
     let mut position = position;
     let mut later = free;
-    for _i in 0..more {
+    let mut left = more;
+    while left > 0 {
         let at = match next_slot(schedule, &mut position, class, need, later) {
             Ok(at) => at,
             Err(why) => return Err(why),
         };
-        later = at + need;
+        let frames = in_a_row(schedule, &position, class, need, at, left);
+        later = at + frames * need;
+        left -= frames;
     }
     Ok(later)
 }

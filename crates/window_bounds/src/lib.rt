@@ -51,7 +51,7 @@ pub enum Unbound {
     Overloaded,
     /// No window takes the longest frame.
     Stuck,
-    /// So many frames as may be were looked at, and it is not yet as it was.
+    /// So many frames as may be were looked at, and the late run is not yet as it was.
     Long,
     /// A frame can't start before the greatest moment.
     Late,

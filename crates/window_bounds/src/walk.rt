@@ -1,6 +1,6 @@
 //! The walk over the frames by their latest moments, until the late run is as it was.
 
-ghost use Rattle.std.specs.Prelude.{◌≡◌, ℕ, ◌<◌, ◌≤◌, ◌+◌, ◌^◌, All, Some, IfErr, IfOk, IfSome, length, map, replicate};
+ghost use Rattle.std.specs.Prelude.{◌≡◌, ℕ, ◌<◌, ◌≤◌, ◌+◌, ◌^◌, All, Some, IfErr, IfOk, IfSome, MatchOption, length, map, replicate};
 ghost use Rattle.wire_time.specs.Moment.{greatest_moment};
 ghost use Rattle.gate_list.specs.Gate.{IsSchedule, in_ps};
 ghost use Rattle.delay_bounds.specs.Walk.{may_by};
@@ -51,10 +51,15 @@ fn last_begin(flows: &[JitteredFlow]) -> u128
 fn again(mark: Mark, time: Option<u128>, t: u128, free: u128) -> Option<u128>
     requires time { IsBelow 127 time }
     requires was { IsBelow 127 mark.was }
-    ensures { IfSome result (IsAsItWas mark time t free) }
+    ensures { MatchOption result ((every : ℕ) → IsAsItWas mark time t free every → ⊥)
+        (IsAsItWas mark time t free) }
 {
-    let every = time?;
-    let was = mark.was?;
+    let Some(every) = time else {
+        return None;
+    };
+    let Some(was) = mark.was else {
+        return None;
+    };
     if t == mark.at && free.max(t) == was + every {
         return Some(every);
     }

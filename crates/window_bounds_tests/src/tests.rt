@@ -1,4 +1,7 @@
-//! Random flows at 100 Gb/s, in random schedules, beside a model that goes by the definitions.
+//! Flows at 100 Gb/s, in schedules of a few nanoseconds, so that a model can go from picosecond to picosecond.
+
+ghost use Rattle.std.specs.Prelude.{◌<◌, All, length};
+ghost use Rattle.window_bounds.specs.Flows.{IsFlow};
 
 use delay_bounds::Bound;
 use gate_list::{Entry, GateList, Schedule};
@@ -6,137 +9,330 @@ use std::alloc::Global;
 use window_bounds::{JitteredFlow, Unbound, window_bounds};
 use wire_time::Rate;
 
-struct Want { bounds: &'static [Bound], most: u64 }
-struct Row { entries: &'static [Entry], flows: &'static [JitteredFlow], want: Result<Want, Unbound> }
+/// A frame is longer than the window.
+const STUCK: [JitteredFlow; 3] = [
+    JitteredFlow {
+        offset: 11_400,
+        period: 8_000,
+        jitter: 3_075,
+        shortest: 1_796,
+        longest: 1_796,
+    },
+    JitteredFlow {
+        offset: 12_491,
+        period: 10_000,
+        jitter: 9_685,
+        shortest: 450,
+        longest: 450,
+    },
+    JitteredFlow {
+        offset: 28_676,
+        period: 40_000,
+        jitter: 29_057,
+        shortest: 4_261,
+        longest: 4_261,
+    },
+];
 
-const ROWS:[Row;100]=[
-Row{entries:&[Entry{mask:0x80,interval:4},Entry{mask:0x7f,interval:6}],flows:&[JitteredFlow{offset:11_400,period:8_000,jitter:3_075,shortest:1_796,longest:1_796},JitteredFlow{offset:12_491,period:10_000,jitter:9_685,shortest:450,longest:450},JitteredFlow{offset:28_676,period:40_000,jitter:29_057,shortest:4_261,longest:4_261}],want:Err(Unbound::Stuck)},
-Row{entries:&[Entry{mask:0x80,interval:7},Entry{mask:0x7f,interval:6}],flows:&[JitteredFlow{offset:36_094,period:26_000,jitter:11_340,shortest:3_953,longest:3_953},JitteredFlow{offset:16_355,period:26_000,jitter:0,shortest:293,longest:336}],want:Ok(Want{bounds:&[Bound{least:2_906,greatest:28_906},Bound{least:0,greatest:22_645}],most:2})},
-Row{entries:&[Entry{mask:0x80,interval:4},Entry{mask:0x7f,interval:5}],flows:&[JitteredFlow{offset:15_524,period:9_000,jitter:2_754,shortest:759,longest:1_406}],want:Ok(Want{bounds:&[Bound{least:2_476,greatest:2_754}],most:1})},
-Row{entries:&[Entry{mask:0x80,interval:4},Entry{mask:0x7f,interval:6}],flows:&[JitteredFlow{offset:578,period:5_000,jitter:3_425,shortest:370,longest:370},JitteredFlow{offset:51_760,period:40_000,jitter:8_295,shortest:2_315,longest:2_315},JitteredFlow{offset:10_169,period:12_000,jitter:1_746,shortest:394,longest:394}],want:Err(Unbound::Overloaded)},
-Row{entries:&[Entry{mask:0x80,interval:5},Entry{mask:0x7f,interval:7}],flows:&[JitteredFlow{offset:5_684,period:8_000,jitter:7_130,shortest:1_605,longest:1_605},JitteredFlow{offset:1_127,period:24_000,jitter:25_443,shortest:1_132,longest:1_797}],want:Ok(Want{bounds:&[Bound{least:0,greatest:18_316},Bound{least:0,greatest:36_670}],most:3})},
-Row{entries:&[Entry{mask:0x80,interval:5}],flows:&[JitteredFlow{offset:4_362,period:2_500,jitter:0,shortest:2_288,longest:2_443},JitteredFlow{offset:19_667,period:10_000,jitter:165,shortest:648,longest:1_564}],want:Err(Unbound::Overloaded)},
-Row{entries:&[Entry{mask:0x80,interval:6},Entry{mask:0x7f,interval:6}],flows:&[JitteredFlow{offset:28_382,period:16_000,jitter:0,shortest:137,longest:360},JitteredFlow{offset:8_740,period:12_000,jitter:0,shortest:4_875,longest:4_875}],want:Err(Unbound::Overloaded)},
-Row{entries:&[Entry{mask:0x80,interval:6},Entry{mask:0x7f,interval:4}],flows:&[JitteredFlow{offset:5_309,period:10_000,jitter:3_004,shortest:590,longest:1_142},JitteredFlow{offset:31_261,period:20_000,jitter:0,shortest:1_226,longest:1_749}],want:Ok(Want{bounds:&[Bound{least:0,greatest:4_691},Bound{least:0,greatest:488}],most:1})},
-Row{entries:&[Entry{mask:0x80,interval:4},Entry{mask:0x7f,interval:5}],flows:&[JitteredFlow{offset:3_649,period:9_000,jitter:7_370,shortest:1_399,longest:3_464}],want:Ok(Want{bounds:&[Bound{least:5_351,greatest:14_351}],most:2})},
-Row{entries:&[Entry{mask:0x80,interval:5},Entry{mask:0x7f,interval:7}],flows:&[JitteredFlow{offset:10_682,period:8_000,jitter:1_631,shortest:866,longest:866},JitteredFlow{offset:17_833,period:12_000,jitter:1_256,shortest:2_794,longest:2_794}],want:Err(Unbound::Overloaded)},
-Row{entries:&[Entry{mask:0x80,interval:5}],flows:&[JitteredFlow{offset:1_653,period:5_000,jitter:0,shortest:1_671,longest:1_671},JitteredFlow{offset:4_138,period:10_000,jitter:709,shortest:318,longest:1_509},JitteredFlow{offset:1_591,period:10_000,jitter:130,shortest:1_424,longest:1_424}],want:Ok(Want{bounds:&[Bound{least:0,greatest:1_671},Bound{least:0,greatest:857},Bound{least:0,greatest:1_733}],most:2})},
-Row{entries:&[Entry{mask:0x80,interval:5},Entry{mask:0x7f,interval:5},Entry{mask:0x80,interval:6},Entry{mask:0x7f,interval:7}],flows:&[JitteredFlow{offset:20_434,period:23_000,jitter:5_007,shortest:493,longest:493},JitteredFlow{offset:2_888,period:6_000,jitter:5_412,shortest:5_065,longest:5_070}],want:Err(Unbound::Overloaded)},
-Row{entries:&[Entry{mask:0x80,interval:6},Entry{mask:0x7f,interval:7}],flows:&[JitteredFlow{offset:33_447,period:52_000,jitter:91_221,shortest:4_419,longest:4_419},JitteredFlow{offset:10_664,period:13_000,jitter:5_374,shortest:1_766,longest:1_766},JitteredFlow{offset:18_197,period:26_000,jitter:15_622,shortest:583,longest:2_387},JitteredFlow{offset:27_080,period:52_000,jitter:49_765,shortest:2_084,longest:4_943}],want:Err(Unbound::Overloaded)},
-Row{entries:&[Entry{mask:0x80,interval:6},Entry{mask:0x7f,interval:7}],flows:&[JitteredFlow{offset:3_705,period:13_000,jitter:11_763,shortest:1_490,longest:2_408},JitteredFlow{offset:29_451,period:26_000,jitter:4_562,shortest:2_317,longest:2_317}],want:Ok(Want{bounds:&[Bound{least:0,greatest:11_763},Bound{least:0,greatest:11_957}],most:2})},
-Row{entries:&[Entry{mask:0x80,interval:6},Entry{mask:0x7f,interval:4}],flows:&[JitteredFlow{offset:26_038,period:20_000,jitter:4_787,shortest:5_445,longest:5_445},JitteredFlow{offset:8_498,period:10_000,jitter:165,shortest:411,longest:1_884},JitteredFlow{offset:14_499,period:10_000,jitter:0,shortest:6_300,longest:6_300},JitteredFlow{offset:15_547,period:20_000,jitter:3_049,shortest:5_156,longest:5_156}],want:Err(Unbound::Stuck)},
-Row{entries:&[Entry{mask:0x80,interval:6}],flows:&[JitteredFlow{offset:7_923,period:6_000,jitter:5_844,shortest:1_150,longest:1_150},JitteredFlow{offset:7_644,period:4_000,jitter:733,shortest:181,longest:325},JitteredFlow{offset:1_135,period:3_000,jitter:2_713,shortest:806,longest:806}],want:Ok(Want{bounds:&[Bound{least:0,greatest:8_375},Bound{least:0,greatest:3_804},Bound{least:0,greatest:5_013}],most:4})},
-Row{entries:&[Entry{mask:0x80,interval:7},Entry{mask:0x7f,interval:6}],flows:&[JitteredFlow{offset:6_551,period:26_000,jitter:0,shortest:758,longest:1_132},JitteredFlow{offset:3_868,period:13_000,jitter:0,shortest:1_502,longest:2_364},JitteredFlow{offset:15_157,period:13_000,jitter:32_441,shortest:1_065,longest:3_295}],want:Err(Unbound::Overloaded)},
-Row{entries:&[Entry{mask:0x80,interval:5},Entry{mask:0x7f,interval:7},Entry{mask:0x80,interval:6},Entry{mask:0x7f,interval:6}],flows:&[JitteredFlow{offset:42_339,period:24_000,jitter:171,shortest:3_338,longest:3_338}],want:Ok(Want{bounds:&[Bound{least:5_661,greatest:5_661}],most:1})},
-Row{entries:&[Entry{mask:0x80,interval:5},Entry{mask:0x7f,interval:5}],flows:&[JitteredFlow{offset:10_446,period:10_000,jitter:0,shortest:955,longest:1_430},JitteredFlow{offset:7_402,period:5_000,jitter:0,shortest:1_498,longest:1_498},JitteredFlow{offset:37_722,period:20_000,jitter:0,shortest:499,longest:4_942},JitteredFlow{offset:34_873,period:20_000,jitter:11_096,shortest:1_325,longest:1_459}],want:Err(Unbound::Overloaded)},
-Row{entries:&[Entry{mask:0x80,interval:4},Entry{mask:0x7f,interval:5}],flows:&[JitteredFlow{offset:2_188,period:9_000,jitter:0,shortest:1_773,longest:4_670},JitteredFlow{offset:7_206,period:9_000,jitter:0,shortest:1_554,longest:1_707}],want:Err(Unbound::Stuck)},
-Row{entries:&[Entry{mask:0x80,interval:7},Entry{mask:0x7f,interval:5}],flows:&[JitteredFlow{offset:8_426,period:8_000,jitter:0,shortest:133,longest:2_301},JitteredFlow{offset:22_806,period:12_000,jitter:0,shortest:877,longest:3_082},JitteredFlow{offset:8_880,period:8_000,jitter:2_479,shortest:2_252,longest:2_458},JitteredFlow{offset:8_281,period:16_000,jitter:5_042,shortest:2_273,longest:2_273},JitteredFlow{offset:11_858,period:48_000,jitter:37_087,shortest:1_847,longest:1_847}],want:Err(Unbound::Overloaded)},
-Row{entries:&[Entry{mask:0x80,interval:4},Entry{mask:0x7f,interval:7}],flows:&[JitteredFlow{offset:4_858,period:12_000,jitter:25_458,shortest:692,longest:2_181},JitteredFlow{offset:14_205,period:11_000,jitter:18_818,shortest:1_823,longest:2_304}],want:Err(Unbound::Overloaded)},
-Row{entries:&[Entry{mask:0x80,interval:7},Entry{mask:0x7f,interval:5}],flows:&[JitteredFlow{offset:2_551,period:8_000,jitter:187,shortest:311,longest:1_425},JitteredFlow{offset:17_514,period:12_000,jitter:0,shortest:930,longest:930},JitteredFlow{offset:3_509,period:6_000,jitter:0,shortest:2_373,longest:2_373}],want:Err(Unbound::Overloaded)},
-Row{entries:&[Entry{mask:0x80,interval:7},Entry{mask:0x7f,interval:4}],flows:&[JitteredFlow{offset:27_302,period:22_000,jitter:4_965,shortest:2_232,longest:3_365},JitteredFlow{offset:70_849,period:44_000,jitter:88_365,shortest:235,longest:235}],want:Ok(Want{bounds:&[Bound{least:5_698,greatest:20_063},Bound{least:0,greatest:105_151}],most:4})},
-Row{entries:&[Entry{mask:0x80,interval:6}],flows:&[JitteredFlow{offset:1_843,period:4_000,jitter:8_089,shortest:673,longest:2_903},JitteredFlow{offset:4_120,period:4_000,jitter:848,shortest:5_809,longest:5_809},JitteredFlow{offset:8_817,period:12_000,jitter:17,shortest:797,longest:1_119},JitteredFlow{offset:1_504,period:6_000,jitter:0,shortest:2_254,longest:2_254}],want:Err(Unbound::Overloaded)},
-Row{entries:&[Entry{mask:0x80,interval:6},Entry{mask:0x7f,interval:6}],flows:&[JitteredFlow{offset:4_483,period:6_000,jitter:1_138,shortest:5_667,longest:6_098},JitteredFlow{offset:11_124,period:8_000,jitter:7_771,shortest:715,longest:715},JitteredFlow{offset:2_869,period:8_000,jitter:7_650,shortest:1_997,longest:1_997},JitteredFlow{offset:13_214,period:12_000,jitter:8_944,shortest:1_309,longest:1_309}],want:Err(Unbound::Stuck)},
-Row{entries:&[Entry{mask:0x80,interval:4},Entry{mask:0x7f,interval:5}],flows:&[JitteredFlow{offset:4_440,period:4_000,jitter:6_054,shortest:551,longest:993},JitteredFlow{offset:2_997,period:6_000,jitter:0,shortest:3_281,longest:3_281}],want:Err(Unbound::Overloaded)},
-Row{entries:&[Entry{mask:0x80,interval:7},Entry{mask:0x7f,interval:6},Entry{mask:0x80,interval:5},Entry{mask:0x7f,interval:5}],flows:&[JitteredFlow{offset:43_402,period:23_000,jitter:29_932,shortest:243,longest:243}],want:Ok(Want{bounds:&[Bound{least:2_598,greatest:30_175}],most:2})},
-Row{entries:&[Entry{mask:0x80,interval:5},Entry{mask:0x7f,interval:7}],flows:&[JitteredFlow{offset:12_228,period:8_000,jitter:0,shortest:5_323,longest:5_323},JitteredFlow{offset:43_369,period:24_000,jitter:0,shortest:2_176,longest:2_176}],want:Err(Unbound::Stuck)},
-Row{entries:&[Entry{mask:0x80,interval:5},Entry{mask:0x7f,interval:7}],flows:&[JitteredFlow{offset:86_907,period:48_000,jitter:0,shortest:4_709,longest:6_079},JitteredFlow{offset:25_195,period:16_000,jitter:944,shortest:3_462,longest:5_701},JitteredFlow{offset:14_046,period:24_000,jitter:4_046,shortest:111,longest:265},JitteredFlow{offset:27_320,period:16_000,jitter:3_368,shortest:966,longest:970},JitteredFlow{offset:21_582,period:12_000,jitter:12_451,shortest:2_006,longest:4_474}],want:Err(Unbound::Stuck)},
-Row{entries:&[Entry{mask:0x80,interval:7},Entry{mask:0x7f,interval:6}],flows:&[JitteredFlow{offset:28_662,period:26_000,jitter:66_582,shortest:693,longest:2_149}],want:Ok(Want{bounds:&[Bound{least:0,greatest:77_487}],most:3})},
-Row{entries:&[Entry{mask:0x80,interval:6}],flows:&[JitteredFlow{offset:1_726,period:4_000,jitter:572,shortest:1_409,longest:1_409},JitteredFlow{offset:9_216,period:6_000,jitter:0,shortest:1_538,longest:1_538}],want:Ok(Want{bounds:&[Bound{least:0,greatest:1_028},Bound{least:0,greatest:620}],most:1})},
-Row{entries:&[Entry{mask:0x80,interval:4},Entry{mask:0x7f,interval:5}],flows:&[JitteredFlow{offset:1_910,period:9_000,jitter:2_058,shortest:686,longest:1_429},JitteredFlow{offset:18_750,period:18_000,jitter:0,shortest:1_857,longest:1_857}],want:Ok(Want{bounds:&[Bound{least:0,greatest:7_090},Bound{least:0,greatest:1_107}],most:1})},
-Row{entries:&[Entry{mask:0x80,interval:5},Entry{mask:0x7f,interval:7}],flows:&[JitteredFlow{offset:14_258,period:24_000,jitter:0,shortest:1_004,longest:1_004}],want:Ok(Want{bounds:&[Bound{least:0,greatest:0}],most:1})},
-Row{entries:&[Entry{mask:0x80,interval:4},Entry{mask:0x7f,interval:6}],flows:&[JitteredFlow{offset:6_300,period:5_000,jitter:14_432,shortest:742,longest:1_913}],want:Ok(Want{bounds:&[Bound{least:0,greatest:28_700}],most:4})},
-Row{entries:&[Entry{mask:0x80,interval:4},Entry{mask:0x7f,interval:7}],flows:&[JitteredFlow{offset:11_503,period:11_000,jitter:2_504,shortest:6_022,longest:6_022},JitteredFlow{offset:13_668,period:22_000,jitter:17_485,shortest:766,longest:1_738}],want:Err(Unbound::Stuck)},
-Row{entries:&[Entry{mask:0x80,interval:5},Entry{mask:0x7f,interval:5}],flows:&[JitteredFlow{offset:679,period:10_000,jitter:4_256,shortest:1_567,longest:1_567},JitteredFlow{offset:18_507,period:10_000,jitter:19_413,shortest:372,longest:480}],want:Ok(Want{bounds:&[Bound{least:0,greatest:12_455},Bound{least:1_493,greatest:24_627}],most:4})},
-Row{entries:&[Entry{mask:0x80,interval:5},Entry{mask:0x7f,interval:7}],flows:&[JitteredFlow{offset:15_796,period:24_000,jitter:3_015,shortest:734,longest:734},JitteredFlow{offset:36_501,period:48_000,jitter:0,shortest:190,longest:1_611}],want:Ok(Want{bounds:&[Bound{least:0,greatest:8_204},Bound{least:0,greatest:0}],most:1})},
-Row{entries:&[Entry{mask:0x80,interval:7}],flows:&[JitteredFlow{offset:5_490,period:3_500,jitter:9_395,shortest:1_421,longest:1_421},JitteredFlow{offset:8_416,period:7_000,jitter:3_587,shortest:324,longest:2_156}],want:Ok(Want{bounds:&[Bound{least:0,greatest:15_863},Bound{least:0,greatest:9_437}],most:4})},
-Row{entries:&[Entry{mask:0x80,interval:4},Entry{mask:0x7f,interval:7},Entry{mask:0x80,interval:6},Entry{mask:0x7f,interval:4}],flows:&[JitteredFlow{offset:5_876,period:21_000,jitter:4_547,shortest:1_526,longest:1_526}],want:Ok(Want{bounds:&[Bound{least:5_124,greatest:5_124}],most:1})},
-Row{entries:&[Entry{mask:0x80,interval:7},Entry{mask:0x7f,interval:6}],flows:&[JitteredFlow{offset:4_449,period:26_000,jitter:2_852,shortest:964,longest:1_356},JitteredFlow{offset:15_037,period:26_000,jitter:56_283,shortest:3_106,longest:3_106}],want:Ok(Want{bounds:&[Bound{least:0,greatest:21_551},Bound{least:0,greatest:75_963}],most:3})},
-Row{entries:&[Entry{mask:0x80,interval:6},Entry{mask:0x7f,interval:5}],flows:&[JitteredFlow{offset:12_485,period:8_000,jitter:0,shortest:1_998,longest:1_998}],want:Ok(Want{bounds:&[Bound{least:0,greatest:6_515}],most:1})},
-Row{entries:&[Entry{mask:0x80,interval:7},Entry{mask:0x7f,interval:5}],flows:&[JitteredFlow{offset:5_602,period:6_000,jitter:0,shortest:1_253,longest:1_253},JitteredFlow{offset:6_916,period:24_000,jitter:0,shortest:1_711,longest:1_711}],want:Ok(Want{bounds:&[Bound{least:0,greatest:6_398},Bound{least:5_084,greatest:6_795}],most:3})},
-Row{entries:&[Entry{mask:0x80,interval:7},Entry{mask:0x7f,interval:5}],flows:&[JitteredFlow{offset:2_879,period:24_000,jitter:854,shortest:1_057,longest:1_057}],want:Ok(Want{bounds:&[Bound{least:0,greatest:854}],most:1})},
-Row{entries:&[Entry{mask:0x80,interval:6},Entry{mask:0x7f,interval:4},Entry{mask:0x80,interval:6},Entry{mask:0x7f,interval:5}],flows:&[JitteredFlow{offset:69_169,period:42_000,jitter:0,shortest:2_004,longest:2_004},JitteredFlow{offset:17_695,period:14_000,jitter:25_939,shortest:287,longest:1_763}],want:Ok(Want{bounds:&[Bound{least:3_831,greatest:14_831},Bound{least:0,greatest:38_305}],most:3})},
-Row{entries:&[Entry{mask:0x80,interval:6},Entry{mask:0x7f,interval:5}],flows:&[JitteredFlow{offset:32_786,period:22_000,jitter:2_395,shortest:1_284,longest:1_289},JitteredFlow{offset:42_832,period:22_000,jitter:5_421,shortest:891,longest:891}],want:Ok(Want{bounds:&[Bound{least:214,greatest:2_395},Bound{least:1_168,greatest:5_421}],most:1})},
-Row{entries:&[Entry{mask:0x80,interval:5},Entry{mask:0x7f,interval:7},Entry{mask:0x80,interval:6},Entry{mask:0x7f,interval:4}],flows:&[JitteredFlow{offset:10_603,period:44_000,jitter:6_940,shortest:1_971,longest:1_971}],want:Ok(Want{bounds:&[Bound{least:1_397,greatest:11_397}],most:1})},
-Row{entries:&[Entry{mask:0x80,interval:6},Entry{mask:0x7f,interval:7}],flows:&[JitteredFlow{offset:14_946,period:13_000,jitter:0,shortest:350,longest:350},JitteredFlow{offset:52_464,period:52_000,jitter:2_298,shortest:1_669,longest:1_669},JitteredFlow{offset:3_108,period:13_000,jitter:1_498,shortest:1_658,longest:1_658},JitteredFlow{offset:3_339,period:26_000,jitter:5_735,shortest:1_551,longest:1_551}],want:Ok(Want{bounds:&[Bound{least:0,greatest:1_669},Bound{least:0,greatest:3_151},Bound{least:0,greatest:11_561},Bound{least:0,greatest:11_330}],most:3})},
-Row{entries:&[Entry{mask:0x80,interval:7},Entry{mask:0x7f,interval:7}],flows:&[JitteredFlow{offset:21_795,period:28_000,jitter:0,shortest:335,longest:782},JitteredFlow{offset:10_203,period:14_000,jitter:0,shortest:119,longest:454}],want:Ok(Want{bounds:&[Bound{least:6_205,greatest:6_205},Bound{least:3_797,greatest:4_579}],most:2})},
-Row{entries:&[Entry{mask:0x80,interval:4}],flows:&[JitteredFlow{offset:7_457,period:4_000,jitter:7_237,shortest:2_039,longest:2_039},JitteredFlow{offset:14_240,period:8_000,jitter:3_547,shortest:1_838,longest:1_838}],want:Ok(Want{bounds:&[Bound{least:0,greatest:11_315},Bound{least:0,greatest:7_625}],most:3})},
-Row{entries:&[Entry{mask:0x80,interval:5},Entry{mask:0x7f,interval:7}],flows:&[JitteredFlow{offset:22_768,period:12_000,jitter:4_090,shortest:1_685,longest:1_685},JitteredFlow{offset:28_025,period:24_000,jitter:3_681,shortest:705,longest:705}],want:Ok(Want{bounds:&[Bound{least:1_232,greatest:4_090},Bound{least:0,greatest:7_975}],most:2})},
-Row{entries:&[Entry{mask:0x80,interval:7},Entry{mask:0x7f,interval:6}],flows:&[JitteredFlow{offset:3_374,period:8_000,jitter:1_495,shortest:2_273,longest:2_273},JitteredFlow{offset:16_187,period:13_000,jitter:9_417,shortest:2_333,longest:2_333}],want:Ok(Want{bounds:&[Bound{least:0,greatest:11_959},Bound{least:0,greatest:14_479}],most:3})},
-Row{entries:&[Entry{mask:0x80,interval:6},Entry{mask:0x7f,interval:4}],flows:&[JitteredFlow{offset:4_002,period:10_000,jitter:5_302,shortest:240,longest:270},JitteredFlow{offset:4_562,period:10_000,jitter:28_669,shortest:362,longest:1_799}],want:Ok(Want{bounds:&[Bound{least:0,greatest:15_998},Bound{least:0,greatest:37_237}],most:4})},
-Row{entries:&[Entry{mask:0x80,interval:7}],flows:&[JitteredFlow{offset:6_132,period:7_000,jitter:0,shortest:157,longest:454},JitteredFlow{offset:36_810,period:28_000,jitter:41_727,shortest:130,longest:215}],want:Ok(Want{bounds:&[Bound{least:0,greatest:908},Bound{least:0,greatest:42_181}],most:3})},
-Row{entries:&[Entry{mask:0x80,interval:6}],flows:&[JitteredFlow{offset:6_247,period:12_000,jitter:4_044,shortest:1_288,longest:5_164},JitteredFlow{offset:4_636,period:12_000,jitter:97,shortest:528,longest:528}],want:Ok(Want{bounds:&[Bound{least:0,greatest:4_044},Bound{least:0,greatest:97}],most:1})},
-Row{entries:&[Entry{mask:0x80,interval:6},Entry{mask:0x7f,interval:6}],flows:&[JitteredFlow{offset:19_450,period:12_000,jitter:10_318,shortest:369,longest:1_873}],want:Ok(Want{bounds:&[Bound{least:4_550,greatest:16_550}],most:2})},
-Row{entries:&[Entry{mask:0x80,interval:5},Entry{mask:0x7f,interval:4}],flows:&[JitteredFlow{offset:29_401,period:18_000,jitter:0,shortest:1_228,longest:3_965}],want:Ok(Want{bounds:&[Bound{least:0,greatest:6_599}],most:1})},
-Row{entries:&[Entry{mask:0x80,interval:6},Entry{mask:0x7f,interval:5},Entry{mask:0x80,interval:5},Entry{mask:0x7f,interval:7}],flows:&[JitteredFlow{offset:74_817,period:46_000,jitter:7_255,shortest:2_267,longest:2_659},JitteredFlow{offset:34_138,period:23_000,jitter:983,shortest:1_530,longest:1_530}],want:Ok(Want{bounds:&[Bound{least:5_183,greatest:17_183},Bound{least:0,greatest:11_862}],most:2})},
-Row{entries:&[Entry{mask:0x80,interval:7},Entry{mask:0x7f,interval:5}],flows:&[JitteredFlow{offset:16_435,period:12_000,jitter:4_954,shortest:5_151,longest:5_151}],want:Ok(Want{bounds:&[Bound{least:7_565,greatest:7_565}],most:1})},
-Row{entries:&[Entry{mask:0x80,interval:5},Entry{mask:0x7f,interval:7}],flows:&[JitteredFlow{offset:38_526,period:48_000,jitter:30_604,shortest:164,longest:1_431}],want:Ok(Want{bounds:&[Bound{least:0,greatest:33_474}],most:1})},
-Row{entries:&[Entry{mask:0x80,interval:4},Entry{mask:0x7f,interval:5},Entry{mask:0x80,interval:6},Entry{mask:0x7f,interval:6}],flows:&[JitteredFlow{offset:35_010,period:21_000,jitter:1_067,shortest:321,longest:626},JitteredFlow{offset:7_532,period:42_000,jitter:4_462,shortest:2_026,longest:2_026}],want:Ok(Want{bounds:&[Bound{least:0,greatest:6_990},Bound{least:1_468,greatest:4_462}],most:1})},
-Row{entries:&[Entry{mask:0x80,interval:5},Entry{mask:0x7f,interval:5}],flows:&[JitteredFlow{offset:16_347,period:10_000,jitter:6_331,shortest:890,longest:2_082},JitteredFlow{offset:15_567,period:10_000,jitter:7_163,shortest:2_323,longest:2_323}],want:Ok(Want{bounds:&[Bound{least:3_653,greatest:15_976},Bound{least:4_433,greatest:16_756}],most:4})},
-Row{entries:&[Entry{mask:0x80,interval:6},Entry{mask:0x7f,interval:7}],flows:&[JitteredFlow{offset:10_536,period:6_500,jitter:14_907,shortest:706,longest:706},JitteredFlow{offset:10_856,period:13_000,jitter:7_340,shortest:364,longest:1_430}],want:Ok(Want{bounds:&[Bound{least:0,greatest:29_894},Bound{least:2_144,greatest:19_434}],most:6})},
-Row{entries:&[Entry{mask:0x80,interval:5},Entry{mask:0x7f,interval:7}],flows:&[JitteredFlow{offset:20_716,period:12_000,jitter:7_020,shortest:1_207,longest:1_207},JitteredFlow{offset:5_730,period:12_000,jitter:5_856,shortest:1_920,longest:1_920}],want:Ok(Want{bounds:&[Bound{least:3_284,greatest:15_284},Bound{least:6_270,greatest:18_270}],most:3})},
-Row{entries:&[Entry{mask:0x80,interval:6},Entry{mask:0x7f,interval:7}],flows:&[JitteredFlow{offset:2_889,period:8_000,jitter:7_273,shortest:905,longest:905},JitteredFlow{offset:11_371,period:26_000,jitter:2_527,shortest:604,longest:604}],want:Ok(Want{bounds:&[Bound{least:0,greatest:15_111},Bound{least:1_629,greatest:3_439}],most:3})},
-Row{entries:&[Entry{mask:0x80,interval:5},Entry{mask:0x7f,interval:7}],flows:&[JitteredFlow{offset:21_649,period:12_000,jitter:0,shortest:1_495,longest:1_495},JitteredFlow{offset:8_585,period:6_000,jitter:1_286,shortest:1_406,longest:1_406}],want:Ok(Want{bounds:&[Bound{least:2_351,greatest:5_341},Bound{least:0,greatest:9_415}],most:3})},
-Row{entries:&[Entry{mask:0x80,interval:5},Entry{mask:0x7f,interval:6},Entry{mask:0x80,interval:5},Entry{mask:0x7f,interval:5}],flows:&[JitteredFlow{offset:3_736,period:21_000,jitter:16_346,shortest:1_336,longest:1_336},JitteredFlow{offset:15_687,period:14_000,jitter:0,shortest:664,longest:1_274}],want:Ok(Want{bounds:&[Bound{least:7_264,greatest:18_600},Bound{least:0,greatest:6_649}],most:2})},
-Row{entries:&[Entry{mask:0x80,interval:6},Entry{mask:0x7f,interval:7},Entry{mask:0x80,interval:5},Entry{mask:0x7f,interval:6}],flows:&[JitteredFlow{offset:4_979,period:12_000,jitter:0,shortest:2_475,longest:2_728},JitteredFlow{offset:14_504,period:24_000,jitter:1_608,shortest:1_078,longest:1_836}],want:Ok(Want{bounds:&[Bound{least:7_021,greatest:9_749},Bound{least:0,greatest:9_496}],most:2})},
-Row{entries:&[Entry{mask:0x80,interval:5},Entry{mask:0x7f,interval:7}],flows:&[JitteredFlow{offset:26_504,period:24_000,jitter:48_634,shortest:234,longest:234},JitteredFlow{offset:1_271,period:12_000,jitter:1_642,shortest:115,longest:567}],want:Ok(Want{bounds:&[Bound{least:0,greatest:57_496},Bound{least:0,greatest:10_729}],most:4})},
-Row{entries:&[Entry{mask:0x80,interval:7},Entry{mask:0x7f,interval:4}],flows:&[JitteredFlow{offset:36_873,period:22_000,jitter:53_050,shortest:491,longest:1_458}],want:Ok(Want{bounds:&[Bound{least:0,greatest:55_966}],most:3})},
-Row{entries:&[Entry{mask:0x80,interval:6},Entry{mask:0x7f,interval:4}],flows:&[JitteredFlow{offset:2_454,period:10_000,jitter:4_535,shortest:1_280,longest:1_280},JitteredFlow{offset:22_998,period:20_000,jitter:336,shortest:1_671,longest:1_671}],want:Ok(Want{bounds:&[Bound{least:0,greatest:7_546},Bound{least:0,greatest:7_002}],most:2})},
-Row{entries:&[Entry{mask:0x80,interval:7},Entry{mask:0x7f,interval:5}],flows:&[JitteredFlow{offset:15_310,period:24_000,jitter:3_478,shortest:1_655,longest:1_655},JitteredFlow{offset:5_266,period:8_000,jitter:0,shortest:1_989,longest:1_989}],want:Ok(Want{bounds:&[Bound{least:0,greatest:8_690},Bound{least:0,greatest:6_734}],most:2})},
-Row{entries:&[Entry{mask:0x80,interval:7},Entry{mask:0x7f,interval:7}],flows:&[JitteredFlow{offset:85_982,period:56_000,jitter:66_398,shortest:854,longest:854},JitteredFlow{offset:159,period:14_000,jitter:2_609,shortest:680,longest:1_337}],want:Ok(Want{bounds:&[Bound{least:0,greatest:69_355},Bound{least:0,greatest:5_283}],most:3})},
-Row{entries:&[Entry{mask:0x80,interval:5},Entry{mask:0x7f,interval:4}],flows:&[JitteredFlow{offset:11_028,period:9_000,jitter:25_757,shortest:2_222,longest:2_222},JitteredFlow{offset:4_811,period:9_000,jitter:4_593,shortest:757,longest:757}],want:Ok(Want{bounds:&[Bound{least:0,greatest:36_194},Bound{least:4_189,greatest:15_411}],most:4})},
-Row{entries:&[Entry{mask:0x80,interval:7},Entry{mask:0x7f,interval:5}],flows:&[JitteredFlow{offset:7_007,period:24_000,jitter:0,shortest:752,longest:1_623},JitteredFlow{offset:18_530,period:24_000,jitter:1_300,shortest:1_059,longest:1_059},JitteredFlow{offset:9_643,period:12_000,jitter:2_027,shortest:838,longest:2_491}],want:Ok(Want{bounds:&[Bound{least:4_993,greatest:4_993},Bound{least:5_470,greatest:5_470},Bound{least:2_357,greatest:4_848}],most:2})},
-Row{entries:&[Entry{mask:0x80,interval:7},Entry{mask:0x7f,interval:7}],flows:&[JitteredFlow{offset:20_592,period:28_000,jitter:149,shortest:308,longest:515},JitteredFlow{offset:5_869,period:12_000,jitter:0,shortest:3_366,longest:3_366}],want:Ok(Want{bounds:&[Bound{least:0,greatest:10_774},Bound{least:0,greatest:12_131}],most:2})},
-Row{entries:&[Entry{mask:0x80,interval:6},Entry{mask:0x7f,interval:7}],flows:&[JitteredFlow{offset:2_017,period:6_500,jitter:14_803,shortest:2_438,longest:2_438}],want:Ok(Want{bounds:&[Bound{least:0,greatest:36_983}],most:4})},
-Row{entries:&[Entry{mask:0x80,interval:6}],flows:&[JitteredFlow{offset:11_638,period:8_000,jitter:0,shortest:861,longest:1_905},JitteredFlow{offset:1_756,period:12_000,jitter:3_646,shortest:1_928,longest:1_928}],want:Ok(Want{bounds:&[Bound{least:0,greatest:1_928},Bound{least:0,greatest:3_810}],most:2})},
-Row{entries:&[Entry{mask:0x80,interval:7},Entry{mask:0x7f,interval:6},Entry{mask:0x80,interval:4},Entry{mask:0x7f,interval:6}],flows:&[JitteredFlow{offset:12_187,period:11_500,jitter:0,shortest:728,longest:728},JitteredFlow{offset:35_219,period:23_000,jitter:47_613,shortest:908,longest:935}],want:Ok(Want{bounds:&[Bound{least:0,greatest:2_683},Bound{least:781,greatest:49_586}],most:4})},
-Row{entries:&[Entry{mask:0x80,interval:5},Entry{mask:0x7f,interval:5}],flows:&[JitteredFlow{offset:5_588,period:20_000,jitter:0,shortest:318,longest:318},JitteredFlow{offset:27_118,period:20_000,jitter:16_520,shortest:371,longest:371}],want:Ok(Want{bounds:&[Bound{least:4_412,greatest:4_412},Bound{least:2_882,greatest:16_520}],most:2})},
-Row{entries:&[Entry{mask:0x80,interval:6},Entry{mask:0x7f,interval:6}],flows:&[JitteredFlow{offset:13_226,period:12_000,jitter:2_041,shortest:773,longest:773},JitteredFlow{offset:10_571,period:6_000,jitter:2_891,shortest:917,longest:917}],want:Ok(Want{bounds:&[Bound{least:0,greatest:2_041},Bound{least:0,greatest:7_429}],most:2})},
-Row{entries:&[Entry{mask:0x80,interval:6},Entry{mask:0x7f,interval:4}],flows:&[JitteredFlow{offset:9_211,period:10_000,jitter:4_739,shortest:759,longest:1_967},JitteredFlow{offset:9_343,period:10_000,jitter:22_940,shortest:1_459,longest:1_459}],want:Ok(Want{bounds:&[Bound{least:789,greatest:14_723},Bound{least:657,greatest:34_591}],most:5})},
-Row{entries:&[Entry{mask:0x80,interval:5},Entry{mask:0x7f,interval:6}],flows:&[JitteredFlow{offset:6_847,period:4_000,jitter:6_494,shortest:212,longest:413},JitteredFlow{offset:5_158,period:4_000,jitter:3_205,shortest:315,longest:315}],want:Ok(Want{bounds:&[Bound{least:0,greatest:13_566},Bound{least:0,greatest:10_255}],most:6})},
-Row{entries:&[Entry{mask:0x80,interval:4}],flows:&[JitteredFlow{offset:1_239,period:4_000,jitter:11_457,shortest:1_886,longest:1_886},JitteredFlow{offset:20_926,period:16_000,jitter:1_398,shortest:2_134,longest:2_134}],want:Ok(Want{bounds:&[Bound{least:0,greatest:15_993},Bound{least:0,greatest:8_306}],most:4})},
-Row{entries:&[Entry{mask:0x80,interval:6},Entry{mask:0x7f,interval:7}],flows:&[JitteredFlow{offset:18_537,period:26_000,jitter:59_895,shortest:213,longest:213},JitteredFlow{offset:834,period:6_000,jitter:17_843,shortest:367,longest:576}],want:Ok(Want{bounds:&[Bound{least:0,greatest:63_495},Bound{least:0,greatest:28_046}],most:8})},
-Row{entries:&[Entry{mask:0x80,interval:6},Entry{mask:0x7f,interval:4}],flows:&[JitteredFlow{offset:11_300,period:10_000,jitter:6_589,shortest:779,longest:779},JitteredFlow{offset:4_814,period:10_000,jitter:0,shortest:413,longest:413}],want:Ok(Want{bounds:&[Bound{least:0,greatest:8_700},Bound{least:0,greatest:5_186}],most:2})},
-Row{entries:&[Entry{mask:0x80,interval:6},Entry{mask:0x7f,interval:6}],flows:&[JitteredFlow{offset:7_258,period:12_000,jitter:2_142,shortest:1_448,longest:1_448},JitteredFlow{offset:5_723,period:16_000,jitter:0,shortest:766,longest:2_460}],want:Ok(Want{bounds:&[Bound{least:4_742,greatest:7_202},Bound{least:0,greatest:6_277}],most:2})},
-Row{entries:&[Entry{mask:0x80,interval:7},Entry{mask:0x7f,interval:5}],flows:&[JitteredFlow{offset:911,period:12_000,jitter:3_914,shortest:416,longest:1_284},JitteredFlow{offset:15_881,period:24_000,jitter:11_191,shortest:1_582,longest:1_582},JitteredFlow{offset:60,period:24_000,jitter:30_499,shortest:319,longest:1_442}],want:Ok(Want{bounds:&[Bound{least:0,greatest:12_671},Bound{least:0,greatest:21_701},Bound{least:0,greatest:37_522}],most:4})},
-Row{entries:&[Entry{mask:0x80,interval:7},Entry{mask:0x7f,interval:6}],flows:&[JitteredFlow{offset:8_224,period:13_000,jitter:13_859,shortest:159,longest:2_130}],want:Ok(Want{bounds:&[Bound{least:4_776,greatest:19_906}],most:2})},
-Row{entries:&[Entry{mask:0x80,interval:7},Entry{mask:0x7f,interval:5}],flows:&[JitteredFlow{offset:9_268,period:12_000,jitter:11_008,shortest:1_841,longest:3_289},JitteredFlow{offset:46_130,period:24_000,jitter:0,shortest:1_305,longest:1_312}],want:Ok(Want{bounds:&[Bound{least:2_732,greatest:14_732},Bound{least:1_870,greatest:13_870}],most:3})},
-Row{entries:&[Entry{mask:0x80,interval:5},Entry{mask:0x7f,interval:5}],flows:&[JitteredFlow{offset:13_842,period:16_000,jitter:2_110,shortest:1_816,longest:1_816},JitteredFlow{offset:13_845,period:10_000,jitter:0,shortest:353,longest:2_446}],want:Ok(Want{bounds:&[Bound{least:0,greatest:10_604},Bound{least:0,greatest:8_601}],most:2})},
-Row{entries:&[Entry{mask:0x80,interval:6},Entry{mask:0x7f,interval:5}],flows:&[JitteredFlow{offset:21_988,period:11_000,jitter:519,shortest:506,longest:736},JitteredFlow{offset:34_031,period:22_000,jitter:5_372,shortest:744,longest:1_401}],want:Ok(Want{bounds:&[Bound{least:12,greatest:1_413},Bound{least:0,greatest:9_969}],most:2})},
-Row{entries:&[Entry{mask:0x80,interval:6},Entry{mask:0x7f,interval:5},Entry{mask:0x80,interval:5},Entry{mask:0x7f,interval:5}],flows:&[JitteredFlow{offset:37_580,period:42_000,jitter:7_794,shortest:716,longest:798},JitteredFlow{offset:40_461,period:21_000,jitter:2_403,shortest:184,longest:974}],want:Ok(Want{bounds:&[Bound{least:4_420,greatest:7_794},Bound{least:1_539,greatest:3_377}],most:2})},
-Row{entries:&[Entry{mask:0x80,interval:5},Entry{mask:0x7f,interval:7}],flows:&[JitteredFlow{offset:3_645,period:16_000,jitter:7_352,shortest:1_129,longest:1_366},JitteredFlow{offset:21_659,period:12_000,jitter:225,shortest:291,longest:718}],want:Ok(Want{bounds:&[Bound{least:0,greatest:12_355},Bound{least:2_341,greatest:3_707}],most:2})},
-Row{entries:&[Entry{mask:0x80,interval:5},Entry{mask:0x7f,interval:4},Entry{mask:0x80,interval:7},Entry{mask:0x7f,interval:5}],flows:&[JitteredFlow{offset:11_939,period:21_000,jitter:23_912,shortest:979,longest:1_487},JitteredFlow{offset:46_160,period:42_000,jitter:35_253,shortest:238,longest:238},JitteredFlow{offset:9_717,period:6_000,jitter:234,shortest:751,longest:751},JitteredFlow{offset:32_806,period:21_000,jitter:0,shortest:188,longest:437},JitteredFlow{offset:48_896,period:28_000,jitter:4_793,shortest:1_189,longest:1_189}],want:Ok(Want{bounds:&[Bound{least:0,greatest:39_061},Bound{least:0,greatest:46_840},Bound{least:0,greatest:14_283},Bound{least:0,greatest:10_681},Bound{least:0,greatest:16_104}],most:5})},
-Row{entries:&[Entry{mask:0x80,interval:7},Entry{mask:0x7f,interval:5}],flows:&[JitteredFlow{offset:9_709,period:12_000,jitter:12_213,shortest:1_253,longest:1_253},JitteredFlow{offset:22_374,period:12_000,jitter:5_318,shortest:1_154,longest:1_351}],want:Ok(Want{bounds:&[Bound{least:2_291,greatest:15_642},Bound{least:1_626,greatest:6_669}],most:3})},
-Row{entries:&[Entry{mask:0x80,interval:7},Entry{mask:0x7f,interval:7}],flows:&[JitteredFlow{offset:4_828,period:7_000,jitter:806,shortest:1_835,longest:2_129},JitteredFlow{offset:39_432,period:28_000,jitter:1_857,shortest:852,longest:1_110}],want:Ok(Want{bounds:&[Bound{least:0,greatest:9_172},Bound{least:2_568,greatest:6_826}],most:3})},
-Row{entries:&[Entry{mask:0x80,interval:4},Entry{mask:0x7f,interval:6}],flows:&[JitteredFlow{offset:19_819,period:10_000,jitter:3_296,shortest:1_140,longest:1_391}],want:Ok(Want{bounds:&[Bound{least:181,greatest:10_181}],most:2})},
-Row{entries:&[Entry{mask:0x80,interval:7},Entry{mask:0x7f,interval:6}],flows:&[JitteredFlow{offset:10_251,period:13_000,jitter:1_395,shortest:532,longest:532},JitteredFlow{offset:36_044,period:26_000,jitter:14_323,shortest:1_073,longest:1_073},JitteredFlow{offset:10_964,period:13_000,jitter:1_877,shortest:1_765,longest:1_765}],want:Ok(Want{bounds:&[Bound{least:2_749,greatest:6_279},Bound{least:2_956,greatest:19_486},Bound{least:2_036,greatest:5_566}],most:3})},
-Row{entries:&[Entry{mask:0x80,interval:5}],flows:&[JitteredFlow{offset:999,period:4_000,jitter:6_731,shortest:2_112,longest:2_112},JitteredFlow{offset:4_546,period:20_000,jitter:18_391,shortest:645,longest:645}],want:Ok(Want{bounds:&[Bound{least:0,greatest:10_955},Bound{least:0,greatest:22_615}],most:4})}];
+/// More comes than the windows take.
+const OVERLOADED: [JitteredFlow; 3] = [
+    JitteredFlow {
+        offset: 578,
+        period: 5_000,
+        jitter: 3_425,
+        shortest: 370,
+        longest: 370,
+    },
+    JitteredFlow {
+        offset: 51_760,
+        period: 40_000,
+        jitter: 8_295,
+        shortest: 2_315,
+        longest: 2_315,
+    },
+    JitteredFlow {
+        offset: 10_169,
+        period: 12_000,
+        jitter: 1_746,
+        shortest: 394,
+        longest: 394,
+    },
+];
 
-fn schedule(entries: &[Entry]) -> Option<Schedule> {
-    let list = GateList::new(entries).ok()?;
+/// In a schedule that never shuts the class.
+const ALWAYS_OPEN: [JitteredFlow; 3] = [
+    JitteredFlow {
+        offset: 1_653,
+        period: 5_000,
+        jitter: 0,
+        shortest: 1_671,
+        longest: 1_671,
+    },
+    JitteredFlow {
+        offset: 4_138,
+        period: 10_000,
+        jitter: 709,
+        shortest: 318,
+        longest: 1_509,
+    },
+    JitteredFlow {
+        offset: 1_591,
+        period: 10_000,
+        jitter: 130,
+        shortest: 1_424,
+        longest: 1_424,
+    },
+];
+
+/// Up to six frames wait.
+const SIX_WAIT: [JitteredFlow; 2] = [
+    JitteredFlow {
+        offset: 10_536,
+        period: 6_500,
+        jitter: 14_907,
+        shortest: 706,
+        longest: 706,
+    },
+    JitteredFlow {
+        offset: 10_856,
+        period: 13_000,
+        jitter: 7_340,
+        shortest: 364,
+        longest: 1_430,
+    },
+];
+
+/// Up to six frames wait, of two lengths.
+const SIX_MORE: [JitteredFlow; 2] = [
+    JitteredFlow {
+        offset: 6_847,
+        period: 4_000,
+        jitter: 6_494,
+        shortest: 212,
+        longest: 413,
+    },
+    JitteredFlow {
+        offset: 5_158,
+        period: 4_000,
+        jitter: 3_205,
+        shortest: 315,
+        longest: 315,
+    },
+];
+
+/// In a schedule with two windows.
+const TWO_WINDOWS: [JitteredFlow; 5] = [
+    JitteredFlow {
+        offset: 11_939,
+        period: 21_000,
+        jitter: 23_912,
+        shortest: 979,
+        longest: 1_487,
+    },
+    JitteredFlow {
+        offset: 46_160,
+        period: 42_000,
+        jitter: 35_253,
+        shortest: 238,
+        longest: 238,
+    },
+    JitteredFlow {
+        offset: 9_717,
+        period: 6_000,
+        jitter: 234,
+        shortest: 751,
+        longest: 751,
+    },
+    JitteredFlow {
+        offset: 32_806,
+        period: 21_000,
+        jitter: 0,
+        shortest: 188,
+        longest: 437,
+    },
+    JitteredFlow {
+        offset: 48_896,
+        period: 28_000,
+        jitter: 4_793,
+        shortest: 1_189,
+        longest: 1_189,
+    },
+];
+
+/// In a schedule with two windows, too.
+const LATE_PAIR: [JitteredFlow; 2] = [
+    JitteredFlow {
+        offset: 5_684,
+        period: 8_000,
+        jitter: 7_130,
+        shortest: 1_605,
+        longest: 1_605,
+    },
+    JitteredFlow {
+        offset: 1_127,
+        period: 24_000,
+        jitter: 25_443,
+        shortest: 1_132,
+        longest: 1_797,
+    },
+];
+
+/// The jitter is longer than a period.
+const VERY_LATE: [JitteredFlow; 2] = [
+    JitteredFlow {
+        offset: 27_302,
+        period: 22_000,
+        jitter: 4_965,
+        shortest: 2_232,
+        longest: 3_365,
+    },
+    JitteredFlow {
+        offset: 70_849,
+        period: 44_000,
+        jitter: 88_365,
+        shortest: 235,
+        longest: 235,
+    },
+];
+
+/// Frames of several lengths.
+const SHORT_AND_LONG: [JitteredFlow; 2] = [
+    JitteredFlow {
+        offset: 36_094,
+        period: 26_000,
+        jitter: 11_340,
+        shortest: 3_953,
+        longest: 3_953,
+    },
+    JitteredFlow {
+        offset: 16_355,
+        period: 26_000,
+        jitter: 0,
+        shortest: 293,
+        longest: 336,
+    },
+];
+
+/// Talkers of little jitter.
+const EXACT: [JitteredFlow; 2] = [
+    JitteredFlow {
+        offset: 5_309,
+        period: 10_000,
+        jitter: 3_004,
+        shortest: 590,
+        longest: 1_142,
+    },
+    JitteredFlow {
+        offset: 31_261,
+        period: 20_000,
+        jitter: 0,
+        shortest: 1_226,
+        longest: 1_749,
+    },
+];
+
+/// A schedule that opens class 7 in every other entry, each of so many nanoseconds, from the first on.
+fn schedule(intervals: &[u32]) -> Option<Schedule> {
+    let mut entries = [Entry {
+        mask: 0x80,
+        interval: 0,
+    }; 4];
+    if intervals.len() > 4 {
+        return None;
+    }
+    for i in 0..intervals.len() {
+        let mask = if i % 2 == 0 { 0x80 } else { 0x7f };
+        entries[i] = Entry {
+            mask,
+            interval: intervals[i],
+        };
+    }
+    let list = GateList::new(&entries[..intervals.len()]).ok()?;
     Schedule::new(&list, 0, 0, 0, Rate::from_mbps(100000).ok()?).ok()
 }
 
-fn differs(alloc: Global, row: &Row) -> &'static str {
-    let Some(schedule) = schedule(row.entries) else { return "no schedule"; };
-    match window_bounds(&alloc, &schedule, 7, row.flows, 10_000) {
-        Ok(got) => match &row.want {
-            Ok(want) => {
-                if got.bounds.as_slice() != want.bounds { return "bounds"; }
-                if got.most != want.most { return "most"; }
-                ""
-            }
-            Err(_) => "there are bounds",
-        },
-        Err(why) => match &row.want {
-            Err(want) => if why == *want { "" } else { "why" },
-            Ok(_) => "there are no bounds",
-        },
+/// In what the bounds of flows of class 7 differ from those that are wanted; empty: in nothing.
+fn differs(
+    alloc: Global,
+    intervals: &[u32],
+    flows: &[JitteredFlow],
+    want: &[(u128, u128)],
+    most: u64,
+) -> &'static str
+    requires some { 0 < length flows.now }
+    requires flows { All IsFlow flows.now }
+{
+    let Some(schedule) = schedule(intervals) else {
+        return "no schedule";
+    };
+    let Ok(got) = window_bounds(&alloc, &schedule, 7, flows, 10_000) else {
+        return "no bounds";
+    };
+    if got.bounds.len() != want.len() {
+        return "how many";
+    }
+    for i in 0..want.len() {
+        let (least, greatest) = want[i];
+        if got.bounds[i] != (Bound { least, greatest }) {
+            return "bounds";
+        }
+    }
+    if got.most != most {
+        return "most";
+    }
+    ""
+}
+
+/// Why flows of class 7 have no bounds.
+fn why(alloc: Global, intervals: &[u32], flows: &[JitteredFlow], limit: u64) -> Option<Unbound>
+    requires some { 0 < length flows.now }
+    requires flows { All IsFlow flows.now }
+{
+    let schedule = schedule(intervals)?;
+    match window_bounds(&alloc, &schedule, 7, flows, limit) {
+        Ok(_) => None,
+        Err(why) => Some(why),
     }
 }
 
 #[test]
-fn rows(rt: HostRuntime) {
-    for row in &ROWS {
-        assert_eq!(rt; differs(rt.alloc(), row), "");
-    }
+fn bounds_are_the_least(rt: HostRuntime) {
+    let want = [(0, 1_671), (0, 857), (0, 1_733)];
+    assert_eq!(rt; differs(rt.alloc(), &[5], &ALWAYS_OPEN, &want, 2), "");
+    let want = [(0, 29_894), (2_144, 19_434)];
+    assert_eq!(rt; differs(rt.alloc(), &[6, 7], &SIX_WAIT, &want, 6), "");
+    let want = [(0, 13_566), (0, 10_255)];
+    assert_eq!(rt; differs(rt.alloc(), &[5, 6], &SIX_MORE, &want, 6), "");
+    let want = [
+        (0, 39_061),
+        (0, 46_840),
+        (0, 14_283),
+        (0, 10_681),
+        (0, 16_104),
+    ];
+    assert_eq!(rt;
+        differs(rt.alloc(), &[5, 4, 7, 5], &TWO_WINDOWS, &want, 5),
+        ""
+    );
+    let want = [(0, 18_316), (0, 36_670)];
+    assert_eq!(rt; differs(rt.alloc(), &[5, 7], &LATE_PAIR, &want, 3), "");
+    let want = [(5_698, 20_063), (0, 105_151)];
+    assert_eq!(rt; differs(rt.alloc(), &[7, 4], &VERY_LATE, &want, 4), "");
+    let want = [(2_906, 28_906), (0, 22_645)];
+    assert_eq!(rt; differs(rt.alloc(), &[7, 6], &SHORT_AND_LONG, &want, 2), "");
+    let want = [(0, 4_691), (0, 488)];
+    assert_eq!(rt; differs(rt.alloc(), &[6, 4], &EXACT, &want, 1), "");
+}
+
+#[test]
+fn no_bounds(rt: HostRuntime) {
+    assert_eq!(rt;
+        why(rt.alloc(), &[4, 6], &STUCK, 10_000),
+        Some(Unbound::Stuck)
+    );
+    assert_eq!(rt;
+        why(rt.alloc(), &[4, 6], &OVERLOADED, 10_000),
+        Some(Unbound::Overloaded)
+    );
+    assert_eq!(rt; why(rt.alloc(), &[6, 7], &SIX_WAIT, 5), Some(Unbound::Long));
 }

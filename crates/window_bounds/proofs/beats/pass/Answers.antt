@@ -1,10 +1,10 @@
-use Rattle.std.proofs.Common.{◌≡◌, ◌<◌, ◌≤◌, ℕ, ◌+◌, ◌-◌, ◌^◌, ◌++◌, List, length, get_or, set, drop, take, refl, sym, ap, ◌∙◌, subst, arith, drop_of_length-le}
+use Rattle.std.proofs.Common.{◌≡◌, ◌<◌, ◌≤◌, ℕ, ◌+◌, List, length, get_or, set, drop, ap, ◌∙◌, arith, drop_of_length-le}
 use Rattle.std.proofs.lemmas.List.{drop-set-lt}
 use Rattle.std.proofs.lemmas.List.Edits.{map_over_more}
 use Rattle.std.proofs.lemmas.List.Elements.{All-set}
 use Rattle.std.proofs.lemmas.List.{get_or_default}
 use Rattle.std.proofs.lemmas.List.Sums.{sum_by-drop_more}
-use Rattle.window_bounds.specs.Beats.{IsBeat, all_before, all_from, capped, come_of, from_on}
+use Rattle.window_bounds.specs.Beats.{IsBeat, all_before, come_of, from_on}
 use Rattle.window_bounds.specs.declared.beats.Beat.{Beat}
 use Rattle.window_bounds.proofs.beats.pass.Goals as goal
 

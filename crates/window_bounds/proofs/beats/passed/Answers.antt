@@ -1,7 +1,6 @@
-use Rattle.std.proofs.Common.{◌≡◌, ℕ, ◌+◌, ◌*◌, sym, ap, ◌∙◌, arith}
+use Rattle.std.proofs.Common.{◌≡◌, ◌+◌, ◌*◌, sym, ap, arith}
 use Rattle.any_traffic.specs.PeriodicWindows.{before}
-use Rattle.window_bounds.specs.declared.beats.Beat.{Beat}
-use Rattle.window_bounds.proofs.BeatLaws.{before_none, from_beat, next_is}
+use Rattle.window_bounds.proofs.BeatLaws.{before_none, next_is}
 use Rattle.window_bounds.proofs.beats.passed.Goals as goal
 
 pub returns-then-t-beat-clause-beat : goal.returns-then-t-beat-clause-beat

@@ -1,10 +1,7 @@
-use Rattle.std.proofs.Common.{◌≡◌, ◌<◌, ◌≤◌, ℕ, ◌+◌, ◌-◌, ◌^◌, max, All, List, refl, sym, ap, ◌∙◌, subst, arith}
-use Rattle.std.proofs.lemmas.Bool.{cases_lt}
+use Rattle.std.proofs.Common.{◌≡◌, ℕ, ◌+◌, ◌-◌, max, subst, arith}
 use Rattle.delay_bounds.specs.Walk.{may_by}
-use Rattle.any_traffic.specs.Slots.{IsSlot}
-use Rattle.window_bounds.specs.Beats.{AreAt, AreAtBy, IsBeat, all_before}
+use Rattle.window_bounds.specs.Beats.{all_before}
 use Rattle.window_bounds.specs.Slots.{HasSent}
-use Rattle.window_bounds.specs.declared.beats.Beat.{Beat}
 use Rattle.window_bounds.specs.declared.late_run.Run.{Run}
 use Rattle.window_bounds.proofs.SendLaws.{at_next, one_more, sent_next, slot_of}
 use Rattle.window_bounds.proofs.late_run.send.Goals as goal

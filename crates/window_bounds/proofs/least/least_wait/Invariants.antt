@@ -1,4 +1,4 @@
-use Rattle.std.proofs.Common.{◌≡◌, ◌<◌, ◌≤◌, ◌+◌, ◌-◌, ◌%◌, ℕ}
+use Rattle.std.proofs.Common.{◌≡◌, ◌<◌, ◌-◌}
 use Rattle.gate_list.specs.Gate.{in_ps}
 use Rattle.delay_bounds.specs.Walk.{may_by}
 use Rattle.window_bounds.specs.Flows.{periodic_of}

@@ -1,7 +1,7 @@
-use Rattle.std.proofs.Common.{◌≡◌, ◌<◌, ◌≤◌, ℕ, ◌+◌, drop, inl, inr, arith}
+use Rattle.std.proofs.Common.{◌≡◌, ◌≤◌, ℕ, ◌+◌, inl, inr, arith}
 use Rattle.std.proofs.lemmas.Bool.{cases_lt}
 use Rattle.std.proofs.lemmas.List.Sums.{sum_by-drop_more}
-use Rattle.window_bounds.specs.Beats.{all_before, beat_at, come_of}
+use Rattle.window_bounds.specs.Beats.{beat_at, come_of}
 use Rattle.window_bounds.proofs.BeatLaws.{before_none, before_one}
 use Rattle.window_bounds.proofs.notes.due_at.Goals as goal
 use Rattle.window_bounds.proofs.notes.due_at.Goals.{then-lates-i, else-lates-i}

@@ -1,4 +1,4 @@
-use Rattle.std.proofs.Common.{◌≡◌, All, sym, ◌∙◌, subst}
+use Rattle.std.proofs.Common.{All, sym, ◌∙◌, subst}
 use Rattle.burst_bounds.specs.Talkers.{IsTalker}
 use Rattle.window_bounds.proofs.FlowLaws.{are_talkers}
 use Rattle.window_bounds.proofs.overload.repeat_of.Goals as goal

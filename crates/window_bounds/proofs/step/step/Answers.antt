@@ -1,10 +1,9 @@
-use Rattle.std.proofs.Common.{◌≡◌, ◌<◌, ◌≤◌, ℕ, ◌+◌, ◌-◌, ◌^◌, max, All, List, length, map, get_or, refl, sym, ap, ◌∙◌, subst, arith}
+use Rattle.std.proofs.Common.{◌≡◌, ℕ, ◌+◌, ◌-◌, map, ap, ◌∙◌, subst, arith}
 use Rattle.delay_bounds.specs.Walk.{may_by}
-use Rattle.any_traffic.specs.PeriodicWindows.{can_by, must_before}
-use Rattle.window_bounds.specs.Beats.{AreAt, AreAtBy, IsBeat, all_before, all_from, early_beat, late_beat}
+use Rattle.any_traffic.specs.PeriodicWindows.{can_by}
+use Rattle.window_bounds.specs.Beats.{all_from, early_beat, late_beat}
 use Rattle.window_bounds.specs.Flows.{flows_of}
-use Rattle.window_bounds.specs.Slots.{HasSent, IsFreeBehind, IsUnsent}
-use Rattle.window_bounds.specs.declared.beats.Beat.{Beat}
+use Rattle.window_bounds.specs.Slots.{IsFreeBehind, IsUnsent}
 use Rattle.window_bounds.specs.declared.late_run.Run.{Run}
 use Rattle.window_bounds.proofs.BeatLaws.{from_twice}
 use Rattle.window_bounds.proofs.StepLaws.{HasDone, aheads_by, begin, can_within, earlies_on, fine_early, fine_late, period_at, run_so, start_at, t_soon, undone, unsent_why}

@@ -1,6 +1,5 @@
-use Rattle.std.proofs.Common.{◌≡◌, ◌<◌, ◌≤◌, ◌+◌, ℕ, ap, subst, arith}
+use Rattle.std.proofs.Common.{ap, arith}
 use Rattle.any_traffic.specs.PeriodicWindows.{PeriodicFlow}
-use Rattle.window_bounds.specs.Notes.{jittered_at}
 use Rattle.window_bounds.proofs.NoteLaws.{flow_there}
 use Rattle.window_bounds.proofs.walk.last_begin.Goals as goal
 

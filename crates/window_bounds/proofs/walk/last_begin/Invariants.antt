@@ -1,4 +1,4 @@
-use Rattle.std.proofs.Common.{◌≡◌, ◌≤◌, ◌^◌, ◌+◌, ◌<◌, ℕ}
+use Rattle.std.proofs.Common.{◌≤◌, ◌^◌, ◌+◌, ◌<◌, ℕ}
 use Rattle.window_bounds.specs.Notes.{jittered_at}
 use Rattle.window_bounds.proofs.walk.last_begin.Given as goal
 

@@ -1,4 +1,4 @@
-use Rattle.std.proofs.Common.{◌≡◌, ◌<◌, ◌≤◌, ◌-◌, ◌^◌, ℕ, None, length}
+use Rattle.std.proofs.Common.{◌≡◌, ◌-◌, ℕ, None, length}
 use Rattle.std.specs.Prelude.{IfSome}
 use Rattle.list_position.specs.Position.{StoodBy}
 use Rattle.delay_bounds.specs.Walk.{may_by}

@@ -1,11 +1,11 @@
-use Rattle.std.proofs.Common.{◌≡◌, ◌<◌, ◌++◌, ℕ, List, Ok, Some, drop, length, refl, sym, ap, ◌∙◌, subst, arith, get_or}
+use Rattle.std.proofs.Common.{◌≡◌, ◌<◌, ◌++◌, ℕ, List, Ok, drop, length, ap, ◌∙◌, subst, arith, get_or}
 use Rattle.std.specs.Prelude.{IfSome}
 use Rattle.std.proofs.Math.ListN.{get_or-append}
 use Rattle.std.proofs.lemmas.List.{get_or-take, length-map, length-replicate}
 use Rattle.delay_bounds.specs.Walk.{may_by}
 use Rattle.window_bounds.specs.Flows.{periodic_of}
 use Rattle.window_bounds.specs.Least.{IsLeastWait}
-use Rattle.window_bounds.specs.Flows.{flows_of, longest_need}
+use Rattle.window_bounds.specs.Flows.{flows_of}
 use Rattle.window_bounds.specs.Notes.{bound_at, jittered_at}
 use Rattle.window_bounds.specs.Walk.{HasCome}
 use Rattle.window_bounds.proofs.AnswerLaws.{are_least, hopeless_is, stuck_flow}
