@@ -66,9 +66,13 @@ impl<A: Allocator> Streams<A> {
     fn keep(&mut self, stream: Stream) -> Result<(), AllocError>
         ensures { OnOk result (self.new ≡ self.old ++ stream ∷ []) }
     {
-        self.list.push(stream)?;
-        self.timed |= stream.deadline.is_some();
-        Ok(())
+        match self.list.push(stream) {
+            Ok(()) => {
+                self.timed |= stream.deadline.is_some();
+                Ok(())
+            }
+            Err(fault) => Err(fault),
+        }
     }
 
     /// The stream that a frame of this ID is of.
