@@ -5,7 +5,7 @@ ghost use Rattle.frame_table.specs.Deadline.{has_deadlines};
 ghost use Rattle.frame_table.specs.StreamOf.{has_frame, stream_by, stream_in, with_ids};
 
 use script::{ScriptFault, Watch};
-use std::alloc::{AllocError, Allocator};
+use std::alloc::Allocator;
 use std::marker::Model;
 use traffic::{Stream, StreamTaker, Untaken, has_ids, tell_stream};
 
@@ -63,12 +63,16 @@ impl<A: Allocator> Streams<A> {
     }
 
     /// Keeps a stream after the others.
-    fn keep(&mut self, stream: Stream) -> Result<(), AllocError>
+    fn keep(&mut self, stream: Stream) -> Result<(), Untaken>
         ensures { OnOk result (self.new ≡ self.old ++ stream ∷ []) }
     {
-        self.list.push(stream)?;
-        self.timed |= stream.deadline.is_some();
-        Ok(())
+        match self.list.push(stream) {
+            Ok(()) => {
+                self.timed |= stream.deadline.is_some();
+                Ok(())
+            }
+            Err(_) => Err(Untaken::Memory),
+        }
     }
 
     /// The stream that a frame of this ID is of.
