@@ -10,7 +10,7 @@ _taprio_port() {
         script) words='--rate --mtu --room --until --summary --strict --strict-frames --explain --help' values='--rate --mtu --room --until' ;;
         replay) words='--rate --mtu --room --until --stamp --summary --progress --strict --strict-frames --explain --help' values='--rate --mtu --room --until --stamp' ;;
         check) words='--rate --mtu --map --windows --frame --script --strict --explain --help' values='--rate --mtu --map --frame' ;;
-        streams) words='--with --from --strict --explain --help' values='--with --from' ;;
+        streams) words='--with --from --late --strict --explain --help' values='--with --from' ;;
         bounds) words='--rate --mtu --room --map --frames --strict --explain --help' values='--rate --mtu --room --map --frames' ;;
         draw) words='--rate --mtu --room --until --from --to --width --strict --explain --help' values='--rate --mtu --room --until --from --to --width' ;;
         frames) words='--rate --mtu --room --until --capture --by-stream --strict --explain --help' values='--rate --mtu --room --until --capture --by-stream' ;;

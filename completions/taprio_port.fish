@@ -36,6 +36,7 @@ complete -c taprio_port -n '__fish_seen_subcommand_from check' -f
 complete -c taprio_port -n __fish_use_subcommand -f -a streams -d 'Writes a script with the frames of the streams in a table on standard input'
 complete -c taprio_port -n '__fish_seen_subcommand_from streams' -l with -r -F -d 'A file with a script whose lines are put among the frames, each at its moment'
 complete -c taprio_port -n '__fish_seen_subcommand_from streams' -l from -x -d 'A moment that is added to each offset: picoseconds, or a number with its unit [default: 0]'
+complete -c taprio_port -n '__fish_seen_subcommand_from streams' -l late -d 'Have each frame come as late as its jitter lets it, in place of as early'
 complete -c taprio_port -n '__fish_seen_subcommand_from streams' -l strict -d 'End with status 1 where a tc line of SCRIPT is no command, or two streams share ids'
 complete -c taprio_port -n '__fish_seen_subcommand_from streams' -l explain -d 'Report with a fault its line and what was expected, also where standard error is no terminal'
 complete -c taprio_port -n '__fish_seen_subcommand_from streams' -l help -d 'Print help'

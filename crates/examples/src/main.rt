@@ -10,7 +10,7 @@ use schedule_check::{CheckSettings, check};
 use script::{Settings, Unwatched, run_script};
 use std::rt::Files;
 use std::{fs, io};
-use traffic::write_streams;
+use traffic::{Plan, write_streams};
 use wire_time::Rate;
 
 /// The examples, each with its script, its answers, and whether a summary is asked for.
@@ -137,7 +137,7 @@ fn streams_agree<R: Files + AllocGlobal>(rt: &R) -> io::Result<bool> {
         table.as_slice(),
         schedule.as_slice(),
         &mut got,
-        0,
+        Plan::earliest(0),
         &mut Unwatched,
     );
     Ok(written.is_ok() && got.as_slice() == script.as_slice())

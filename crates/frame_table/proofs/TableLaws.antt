@@ -1,12 +1,7 @@
 -- Reading a table of streams: the ends; and what comes of it.
 use Rattle.std.proofs.Common.{◌≡◌, ◌<◌, ◌≤◌, ◌+◌, ℕ, Bool, cond, List, [], ◌∷◌, ◌++◌, length, drop, get_or, Option, Some, None, Result, Ok, Err, true, false, refl, sym, ap, ◌∙◌, subst}
 use Rattle.std.specs.Prelude.{IfSome, ◌||◌, is_some, option_map}
-use Rattle.std.specs.List.{flat_map}
-use Rattle.words.specs.Words.{words_of}
 use Rattle.line_reader.specs.Script.{Script, script_of}
-use Rattle.line_reader.specs.LineReader.{Advances}
-use Rattle.line_reader.specs.declared.lines.LineFault.{LineFault}
-use Rattle.line_reader.specs.declared.lines.LineFault.TheVariants as LineFaults
 use Rattle.job.specs.declared.fault.Fault.{Fault}
 use Rattle.job.specs.declared.fault.Fault.TheVariants as Faults
 use Rattle.script.specs.declared.faults.ScriptFault.{ScriptFault}

@@ -5,7 +5,7 @@ ghost use Rattle.frame_table.specs.Deadline.{has_deadlines};
 ghost use Rattle.frame_table.specs.StreamOf.{has_frame, stream_by, stream_in, with_ids};
 
 use script::{ScriptFault, Watch};
-use std::alloc::{AllocError, Allocator};
+use std::alloc::Allocator;
 use std::marker::Model;
 use traffic::{Stream, StreamTaker, Untaken, has_ids, tell_stream};
 
@@ -63,7 +63,7 @@ impl<A: Allocator> Streams<A> {
     }
 
     /// Keeps a stream after the others.
-    fn keep(&mut self, stream: Stream) -> Result<(), AllocError>
+    fn keep(&mut self, stream: Stream) -> Result<(), Untaken>
         ensures { OnOk result (self.new ≡ self.old ++ stream ∷ []) }
     {
         match self.list.push(stream) {
@@ -71,7 +71,7 @@ impl<A: Allocator> Streams<A> {
                 self.timed |= stream.deadline.is_some();
                 Ok(())
             }
-            Err(fault) => Err(fault),
+            Err(_) => Err(Untaken::Memory),
         }
     }
 

@@ -11,7 +11,7 @@ use script::{Settings, Unwatched, Values, answer_script};
 use std::alloc::Global;
 use std::io;
 use test_streams::TWO_RECORDS;
-use traffic::answer_streams;
+use traffic::{StreamsWords, answer_streams};
 
 /// How each call ends.
 const OUT_OF_MEMORY: Ended = Ended {
@@ -94,9 +94,13 @@ fn table_tells(alloc: Global) -> io::Result<bool> {
     let heap = no_heap(alloc);
     let mut errors = Vec::new(alloc);
     let mut reader = b"stream 1 5 60 250us 0ns 2\n".as_slice();
+    let words = StreamsWords {
+        from: None,
+        late: false,
+    };
     let (ended, written) = answer_streams(
         &heap,
-        None,
+        words,
         &mut reader,
         NO_SCRIPT,
         answers,

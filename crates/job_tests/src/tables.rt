@@ -4,7 +4,7 @@ use refusing_heap::RefusingHeap;
 use script::Unwatched;
 use std::alloc::Global;
 use test_streams::{Narrow, Pieces};
-use traffic::{StreamsFault, write_streams};
+use traffic::{Plan, StreamsFault, write_streams};
 
 /// Two streams that meet at each second period of the first, a stream of no frames, and lines that are skipped.
 const TABLE: &[u8] = b"# id priority len period offset count\n\
@@ -31,7 +31,14 @@ clock 500000001\nquery\n";
 fn is_refused(alloc: Global, number: u64) -> Option<bool> {
     let heap = RefusingHeap::new(alloc, number, true);
     let mut got = Vec::new(alloc);
-    let run = write_streams(&heap, TABLE, WITH, &mut got, 0, &mut Unwatched);
+    let run = write_streams(
+        &heap,
+        TABLE,
+        WITH,
+        &mut got,
+        Plan::earliest(0),
+        &mut Unwatched,
+    );
     if heap.asked() > number {
         (run == Err(StreamsFault::Memory) && got.is_empty()).then_some(true)
     } else {
@@ -62,7 +69,7 @@ fn is_read_in(alloc: Global, piece: usize) -> bool {
         table,
         Pieces::new(WITH, piece),
         &mut got,
-        0,
+        Plan::earliest(0),
         &mut Unwatched,
     );
     run == Ok(()) && got.as_slice() == BOTH
@@ -74,7 +81,14 @@ fn is_told_at(alloc: Global, fails_at: u32) -> bool {
     reader.fails_at = fails_at;
     reader.recovers = true;
     let mut got = Vec::new(alloc);
-    let run = write_streams(alloc, &mut reader, WITH, &mut got, 0, &mut Unwatched);
+    let run = write_streams(
+        alloc,
+        &mut reader,
+        WITH,
+        &mut got,
+        Plan::earliest(0),
+        &mut Unwatched,
+    );
     run == Err(StreamsFault::Read) && got.is_empty() && reader.calls == fails_at.saturating_add(1)
 }
 
@@ -95,7 +109,14 @@ fn written_before(alloc: Global, fails_at: u32) -> Option<usize> {
     reader.fails_at = fails_at;
     reader.recovers = true;
     let mut got = Vec::new(alloc);
-    let run = write_streams(alloc, TABLE, &mut reader, &mut got, 0, &mut Unwatched);
+    let run = write_streams(
+        alloc,
+        TABLE,
+        &mut reader,
+        &mut got,
+        Plan::earliest(0),
+        &mut Unwatched,
+    );
     let is_front = BOTH.starts_with(&got) && got.len() < BOTH.len();
     let is_last = reader.calls == fails_at.saturating_add(1);
     (run == Err(StreamsFault::Read) && is_front && is_last).then_some(got.len())
@@ -122,7 +143,14 @@ fn is_written(alloc: Global, room: usize) -> bool {
         fails: room % 2 == 0,
         recovers: room % 4 == 0,
     };
-    let run = write_streams(alloc, TABLE, WITH, &mut writer, 0, &mut Unwatched);
+    let run = write_streams(
+        alloc,
+        TABLE,
+        WITH,
+        &mut writer,
+        Plan::earliest(0),
+        &mut Unwatched,
+    );
     run == Err(StreamsFault::Write) && writer.got.len() == room && BOTH.starts_with(&writer.got)
 }
 

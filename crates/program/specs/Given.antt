@@ -24,7 +24,8 @@ use Rattle.script.specs.Given.{GivenWords}
 use Rattle.script.specs.Setup.{Setup}
 use Rattle.job.specs.declared.report.Ended.{Ended}
 use Rattle.script.specs.declared.settings.BadValue.{BadValue}
-use Rattle.traffic.specs.StreamsEnd.{IsStreamsEnding, from_given}
+use Rattle.traffic.specs.StreamsEnd.{GivenWords, IsStreamsEnding, plan_given}
+use Rattle.traffic.specs.declared.plan.Plan.{Plan}
 use Rattle.stream_bounds.specs.BoundsEnd.{IsBoundsEnding, IsBoundsRefusal, bounds_given}
 use Rattle.stream_bounds.specs.declared.settings.BoundsSettings.{BoundsSettings}
 use Rattle.stream_bounds.specs.declared.settings.BoundsValue.{BoundsValue}
@@ -72,16 +73,20 @@ checks_in found =
 abbrev pub draws_in : Found → Result DrawOptions BadValue
 draws_in found = options_of (draw_words_in found)
 
--- the moment that the offsets of a table count from
-abbrev pub from_in : Found → Result ℕ BadValue
-from_in found = from_given (first_value found (codes "from"))
+-- what the words that are given to the options of `streams` say
+abbrev pub streams_in : Found → GivenWords
+streams_in found = record { from = first_value found (codes "from"); late = flag_in (codes "late") found }
+
+-- how the frames of a table come by them
+abbrev pub plan_in : Found → Result Plan BadValue
+plan_in found = plan_given (streams_in found)
 
 -- The end of a run on a table, where a script is named or none is. Without one, that of the table and a script of no octets; else that of
--- the table and of some octets, since what a file gives is not known, or of the path that can't be opened; or of a moment that is bad, which comes first.
-abbrev pub IsGivenStreams : Result ℕ BadValue → Option (List ℕ) → Option (List ℕ) → Ended → (old got errors_old errors_new : Option (List ℕ)) → Type 0
-IsGivenStreams from None table ended old got errors_old errors_new = IsStreamsEnding from table (Some []) ended old got errors_old errors_new
-IsGivenStreams (Ok from) (Some path) table ended old got errors_old errors_new =
-    ((script : Option (List ℕ)) × IsStreamsEnding (Ok from) table script ended old got errors_old errors_new) ⊎ IsUnanswered 4 (open_text path) ended old got errors_old errors_new
+-- the table and of some octets, since what a file gives is not known, or of the path that can't be opened; or of a value that is bad, which comes first.
+abbrev pub IsGivenStreams : Result Plan BadValue → Option (List ℕ) → Option (List ℕ) → Ended → (old got errors_old errors_new : Option (List ℕ)) → Type 0
+IsGivenStreams plan None table ended old got errors_old errors_new = IsStreamsEnding plan table (Some []) ended old got errors_old errors_new
+IsGivenStreams (Ok plan) (Some path) table ended old got errors_old errors_new =
+    ((script : Option (List ℕ)) × IsStreamsEnding (Ok plan) table script ended old got errors_old errors_new) ⊎ IsUnanswered 4 (open_text path) ended old got errors_old errors_new
 IsGivenStreams (Err value) (Some path) table ended old got errors_old errors_new = IsRefusal value ended old got errors_old errors_new
 
 -- the settings of the values that are given to the options of bounds

@@ -24,7 +24,7 @@ use Rattle.replay.specs.Stamps.{stamp_text}
 use Rattle.replay.specs.Texts.{open_text}
 use Rattle.replay.specs.Words.{IsReplayEnding, got}
 use Rattle.replay.specs.declared.stamps.Stamp.{Stamp}
-use Rattle.program.specs.Given.{IsGivenBounds, IsGivenFrames, IsGivenStreams, bounds_in, draws_in, checks_in, from_in, is_strict, over_input_text, settings_in, stamp_in}
+use Rattle.program.specs.Given.{IsGivenBounds, IsGivenFrames, IsGivenStreams, bounds_in, draws_in, checks_in, is_strict, over_input_text, plan_in, settings_in, stamp_in}
 use Rattle.program.specs.Strict.{IsStrictEnding}
 use Rattle.program.specs.Table.{name_of, program_app}
 use Rattle.program.specs.declared.job_name.JobName.{JobName}
@@ -76,7 +76,7 @@ IsJobEnding Names.Replay found input ended old new errors_old errors_new = IsGiv
 IsJobEnding Names.Check found input ended old new errors_old errors_new =
     (tell : Teller) → IsTeller tell → IsEnding (whole_check tell) (checks_in found) input ended old new errors_old errors_new
 IsJobEnding Names.Streams found input ended old new errors_old errors_new =
-    IsGivenStreams (from_in found) (first_value found (codes "with")) input ended old new errors_old errors_new
+    IsGivenStreams (plan_in found) (first_value found (codes "with")) input ended old new errors_old errors_new
 IsJobEnding Names.Bounds found input ended old new errors_old errors_new =
     IsGivenBounds (bounds_in found) (first_value found (codes "table")) input ended old new errors_old errors_new
 IsJobEnding Names.Draw found input ended old new errors_old errors_new =

@@ -49,7 +49,7 @@ rules_of Names.Replay =
 rules_of Names.Check =
     option (codes "rate") ∷ option (codes "mtu") ∷ option (codes "map") ∷ flag (codes "windows") ∷ option (codes "frame")
     ∷ flag (codes "script") ∷ flag (codes "strict") ∷ flag (codes "explain") ∷ []
-rules_of Names.Streams = option (codes "with") ∷ option (codes "from") ∷ flag (codes "strict") ∷ flag (codes "explain") ∷ []
+rules_of Names.Streams = option (codes "with") ∷ option (codes "from") ∷ flag (codes "late") ∷ flag (codes "strict") ∷ flag (codes "explain") ∷ []
 rules_of Names.Bounds =
     option (codes "rate") ∷ option (codes "mtu") ∷ option (codes "room") ∷ option (codes "map") ∷ option (codes "frames")
     ∷ flag (codes "strict") ∷ flag (codes "explain") ∷ file (codes "table") ∷ []

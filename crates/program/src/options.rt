@@ -5,7 +5,8 @@ ghost use Rattle.clap.specs.Words.{IsPlainArg, app_of, first_value, found_of, ru
 ghost use Rattle.clap.specs.declared.builder.command.Command.TheViews.{out-Command as fields_of};
 ghost use Rattle.drawing.specs.Given.{words_of_draws};
 ghost use Rattle.script.specs.Given.{octets_of, words_of_values};
-ghost use Rattle.program.specs.Given.{draw_words_in, flag_in, is_strict, looks_at_frames, words_in};
+ghost use Rattle.program.specs.Given.{draw_words_in, flag_in, is_strict, looks_at_frames, streams_in, words_in};
+ghost use Rattle.traffic.specs.StreamsEnd.{words_of_streams};
 ghost use Rattle.program.specs.Table.{free_rule, program_app, rule_of_word, shape_of_job};
 
 use crate::job_name::JobName;
@@ -16,6 +17,7 @@ use schedule_check::CheckWords;
 use script::Values;
 use std::alloc::{AllocError, Global};
 use stream_bounds::BoundsWords;
+use traffic::StreamsWords;
 
 /// Whether the words ask for a job that reads the standard input, as far as can be told before they are read: for a
 /// prompt alone.
@@ -60,6 +62,16 @@ pub(crate) fn draws_of<'a>(matches: &ArgMatches<'a>) -> DrawValues<'a>
         from: matches.get_str("from"),
         to: matches.get_str("to"),
         width: matches.get_str("width"),
+    }
+}
+
+/// The words that say how the frames of a table of streams come.
+pub(crate) fn streams_of<'a>(matches: &ArgMatches<'a>) -> StreamsWords<'a>
+    ensures { words_of_streams result ≡ streams_in (found_of matches.now) }
+{
+    StreamsWords {
+        from: matches.get_str("from"),
+        late: is_given(matches, "late"),
     }
 }
 
@@ -281,6 +293,14 @@ const OFFSETS_FROM: Word = Word {
     without: None,
 };
 
+const LATE: Word = Word {
+    given: Given::Flag,
+    name: "late",
+    value: "",
+    help: "Have each frame come as late as its jitter lets it, in place of as early",
+    without: None,
+};
+
 const FRAMES: Word = Word {
     given: Given::Value,
     name: "frames",
@@ -422,7 +442,7 @@ pub(crate) const JOBS: [Job; 7] = [
     Job {
         name: JobName::Streams,
         about: "Writes a script with the frames of the streams in a table on standard input",
-        words: &[LINES, OFFSETS_FROM, STRICT_STREAMS, EXPLAIN],
+        words: &[LINES, OFFSETS_FROM, LATE, STRICT_STREAMS, EXPLAIN],
     },
     Job {
         name: JobName::Bounds,

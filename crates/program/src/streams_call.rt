@@ -3,8 +3,9 @@
 ghost use Rattle.std.specs.Prelude.{◌≡◌, IfErr, Some, codes};
 ghost use Rattle.octet_writer.specs.Buffered.{writer_contents};
 ghost use Rattle.clap.specs.Matches.{first_value, found_of};
-ghost use Rattle.program.specs.Given.{IsGivenStreams, from_in};
+ghost use Rattle.program.specs.Given.{IsGivenStreams, plan_in};
 
+use crate::options::streams_of;
 use crate::replay_call::{end_unopened, open};
 use clap::ArgMatches;
 use job::{Ended, Errors};
@@ -13,11 +14,11 @@ use script::{Watch, end_with_value};
 use std::alloc::{Allocator, Global};
 use std::io::{Read, Write};
 use std::rt::Files;
-use traffic::{answer_streams, from_given};
+use traffic::{answer_streams, plan_given};
 
 /// Writes the script of the table of streams that `reader` gives through `answers`, with the lines of the script among
-/// the frames whose file the words name, if they do, and from the moment that they give, with the text of a fault on
-/// `errors`; and gives the writer of the answers back. The moment is judged first; then the file is opened, before
+/// the frames whose file the words name, if they do, and with the frames as they say, with the text of a fault on
+/// `errors`; and gives the writer of the answers back. The values are judged first; then the file is opened, before
 /// anything is read. Where it can't be, nothing is answered.
 pub fn streams_given<F: Files, B: Allocator, R: Read, W: Write + Drop, E: Errors, H: Watch>(
     files: &F,
@@ -28,18 +29,18 @@ pub fn streams_given<F: Files, B: Allocator, R: Read, W: Write + Drop, E: Errors
     errors: &mut E,
     watch: &mut H,
 ) -> (Ended, W)
-    ensures ending { IsGivenStreams (from_in (found_of matches.now)) (first_value (found_of matches.now) (codes "with")) (R.remaining reader.old) result.0 (writer_contents W.contents answers) (W.contents result.1) (E.contents errors.old) (E.contents errors.new) }
-    ensures unread { IfErr (from_in (found_of matches.now)) (λ _. reader.new ≡ reader.old) }
+    ensures ending { IsGivenStreams (plan_in (found_of matches.now)) (first_value (found_of matches.now) (codes "with")) (R.remaining reader.old) result.0 (writer_contents W.contents answers) (W.contents result.1) (E.contents errors.old) (E.contents errors.new) }
+    ensures unread { IfErr (plan_in (found_of matches.now)) (λ _. reader.new ≡ reader.old) }
 {
-    let from = matches.get_str("from");
+    let words = streams_of(matches);
     let Some(path) = matches.get_str("with") else {
-        return answer_streams(alloc, from, reader, b"".as_slice(), answers, errors, watch);
+        return answer_streams(alloc, words, reader, b"".as_slice(), answers, errors, watch);
     };
-    if let Err(value) = from_given(from) {
+    if let Err(value) = plan_given(words) {
         return end_with_value(value, answers, errors);
     }
     match open(files, path) {
-        Ok(script) => answer_streams(alloc, from, reader, script, answers, errors, watch),
+        Ok(script) => answer_streams(alloc, words, reader, script, answers, errors, watch),
         Err(path) => end_unopened(path, answers, errors),
     }
 }

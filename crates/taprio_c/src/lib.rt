@@ -33,6 +33,7 @@ ghost use Rattle.tc_reader.specs.Reader.{IsReader};
 ghost use Rattle.tc_reader.specs.declared.fault.TcFault.{TcFault};
 ghost use Rattle.traffic.specs.Faults.{streams_telling};
 ghost use Rattle.traffic.specs.Outcome.{outcome_of as streams_outcome_of};
+ghost use Rattle.traffic.specs.Plan.{earliest_from};
 
 use crate::values::{is_wanted, moment_of, moment_said, picture_values, port_values, stamp_of};
 use in_memory::{
@@ -146,7 +147,7 @@ pub extern "C" fn taprio_streams(
     fault: &mut [u8],
     ran: &mut Ran,
 )
-    ensures { Answers (told_of streams_telling (streams_outcome_of 0 table.now script.now)) ran.new (slices output.old fault.old) (slices output.new fault.new) }
+    ensures { Answers (told_of streams_telling (streams_outcome_of (earliest_from 0) table.now script.now)) ran.new (slices output.old fault.old) (slices output.new fault.new) }
 {
     *ran = streams_octets(&alloc, 0, table, script, output, fault);
 }
@@ -163,7 +164,7 @@ pub extern "C" fn taprio_streams_from(
     fault: &mut [u8],
     ran: &mut Ran,
 )
-    ensures { Answers (told_by streams_telling (λ from. streams_outcome_of from table.now script.now) (from_at (moment_of from_low from_high))) ran.new (slices output.old fault.old) (slices output.new fault.new) }
+    ensures { Answers (told_by streams_telling (λ from. streams_outcome_of (earliest_from from) table.now script.now) (from_at (moment_of from_low from_high))) ran.new (slices output.old fault.old) (slices output.new fault.new) }
 {
     let from = moment_of(from_low, from_high);
     *ran = streams_octets(&alloc, from, table, script, output, fault);

@@ -4,8 +4,11 @@ use Rattle.std.specs.Prelude.{IfSome, nat_le, nat_lt, if◌then◌else◌}
 use Rattle.std.proofs.lemmas.Bool.{ltb-false}
 use Rattle.std.proofs.lemmas.List.Sums.{sum_by-append, sum_by-cons}
 use Rattle.std.specs.List.{flat_map}
-use Rattle.traffic.specs.Words.{words_of, Script, End, Line, Advances, AreCounted, IsCount, Coming, Few, FrameCount, Many, by_moment, counted_in, counted_line, counted_with, frame_count, frames_after, frames_in_turn, frames_of, line_judged, Stream}
+use Rattle.traffic.specs.Words.{words_of, Script, End, Line, Advances, AreCounted, IsCount, Coming, Course, Few, FrameCount, Many, Plan, by_moment, counted_in, counted_line, counted_with, course_of, courses_from, frame_count, frames_after, frames_in_turn, frames_of, line_judged, Stream}
 use Rattle.traffic.specs.Frames.{insert}
+use Rattle.traffic.specs.Plan.{course_by}
+use Rattle.traffic.specs.declared.plan.Timing.{Timing}
+use Rattle.traffic.specs.declared.plan.Timing.TheVariants.{Drawn, Earliest, Latest}
 use Rattle.traffic.specs.declared.frame_count.TheConstants.{MOST_FRAMES}
 use Rattle.script.specs.declared.faults.ScriptFault.{ScriptFault}
 
@@ -66,19 +69,26 @@ count_more number (Few frames) now streams new stream n a is = subst (λ c. IsCo
 -- ---- as many frames
 
 -- a stream's frames
-after_long : (s : Stream) (k n : ℕ) → length (frames_after s k n) ≡ n
+after_long : (c : Course) (k n : ℕ) → length (frames_after c k n) ≡ n
 unfolding frames_after
-after_long s k zero = refl
-after_long s k (suc n) = ap suc (after_long s (k + 1) n)
+after_long c k zero = refl
+after_long c k (suc n) = ap suc (after_long c (k + 1) n)
 
-all_long : (streams : List Stream) → length (flat_map frames_of streams) ≡ frame_count streams
-all_long [] = refl
-all_long (s ∷ streams) =
-    let one = length-append (frames_of s) (flat_map frames_of streams) in
-    let first = after_long s 0 s.count in
-    let rest = all_long streams in
+same_count : (timing : Timing) (from place : ℕ) (s : Stream) → (course_by timing from place s).count ≡ s.count
+same_count Earliest from place s = refl
+same_count Latest from place s = refl
+same_count (Drawn seed) from place s = refl
+
+all_long : (plan : Plan) (place : ℕ) (streams : List Stream) → length (flat_map frames_of (courses_from plan place streams)) ≡ frame_count streams
+all_long plan place [] = refl
+all_long plan place (s ∷ streams) =
+    let course = course_of plan place s in
+    let one = length-append (frames_of course) (flat_map frames_of (courses_from plan (place + 1) streams)) in
+    let first = after_long course 0 course.count in
+    let count = same_count plan.timing plan.from place s in
+    let rest = all_long plan (place + 1) streams in
     let sum = sum_by-cons (λ (x : Stream). x.count) s streams in
-    omega (arith, one, first, rest, sum)
+    omega (arith, one, first, count, rest, sum)
 
 -- by moment they are as many
 inserted_long : (f : Coming) (fs : List Coming) → length (insert f fs) ≡ suc (length fs)
@@ -94,5 +104,5 @@ unfolding by_moment
 sorted_long [] = refl
 sorted_long (f ∷ fs) = inserted_long f (by_moment fs) ∙ ap suc (sorted_long fs)
 
-pub counted_by_moment : (counted : FrameCount) (streams : List Stream) → IsCount counted (frame_count streams) → AreCounted counted (frames_in_turn streams)
-counted_by_moment counted streams is = subst (IsCount counted) (sym (sorted_long (flat_map frames_of streams) ∙ all_long streams)) is
+pub counted_by_moment : (plan : Plan) (counted : FrameCount) (streams : List Stream) → IsCount counted (frame_count streams) → AreCounted counted (frames_in_turn (courses_from plan 0 streams))
+counted_by_moment plan counted streams is = subst (IsCount counted) (sym (sorted_long (flat_map frames_of (courses_from plan 0 streams)) ∙ all_long plan 0 streams)) is

@@ -16,8 +16,8 @@ IsFirst (t ∷ ts) (suc i) m = FromOn (suc m) (left_of t) × IsFirst ts i m
 -- what is to come of a stream comes no earlier than its next frame
 left_rises : (t : Turn) (f : Coming) → next_of t ≡ Some f → FromOn f.moment (left_of t)
 left_rises t f e =
-    let is = first_is t.stream t.come (t.stream.count - t.come) f e in
-    subst (λ m. FromOn m (left_of t)) (sym is) (rising t.stream t.come (t.stream.count - t.come))
+    let is = first_is t.course t.come (t.course.count - t.come) f e in
+    subst (λ m. FromOn m (left_of t)) (sym is) (rising t.course t.come (t.course.count - t.come))
 
 from_first : (ts : List Turn) (i m : ℕ) → IsFirst ts i m → FromOn m (flat_map left_of ts)
 from_first [] i m h = absurd h

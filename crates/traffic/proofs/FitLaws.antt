@@ -8,7 +8,7 @@ use Rattle.line_reader.specs.declared.lines.Limit.TheVariants.{LongLine, TooMany
 use Rattle.line_reader.specs.declared.lines.TheConstants.{MAX_LINE_OCTETS, MAX_LINES}
 use Rattle.traffic.specs.Merge.{clock_after, clock_in, frames_before, frames_from, latest, moment_of}
 use Rattle.traffic.specs.Room.{clock_count, limit_passed, line_count, line_feeds}
-use Rattle.traffic.specs.declared.turn.Coming.{Coming}
+use Rattle.traffic.specs.declared.course.Coming.{Coming}
 use Rattle.traffic.proofs.BeforeLaws.{all_from, none_before, none_from, not_before, one_before, past_one}
 use Rattle.traffic.proofs.CountLaws.{one_left}
 use Rattle.traffic.proofs.ReadLaws.{feeds-append, feeds-cons}

@@ -4,6 +4,7 @@ mod FitLaws
 mod ComingLaws
 mod CountLaws
 mod CountedLaws
+mod CourseLaws
 mod FrameLaws
 mod LineLaws
 mod MergeLaws
@@ -12,6 +13,7 @@ mod NodeLaws
 mod OrderLaws
 mod OutcomeLaws
 mod PartLaws
+mod PlanLaws
 mod ReadLaws
 mod SaidLaws
 pub mod TableLaws

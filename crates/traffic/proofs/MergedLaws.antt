@@ -15,11 +15,11 @@ use Rattle.traffic.specs.Merge.{clock_after, frames_before, frames_from, line_te
 use Rattle.traffic.specs.Merged.{AreComing, IsComing, MergedLaw, clock_lines, clock_words, frame_lines, frame_words, lines_in, merged_lines, tag_words}
 use Rattle.traffic.specs.Room.{clock_count, counted_in, limit_passed, line_count, lines_taken, line_feeds, passed_on, unless_passed}
 use Rattle.traffic.specs.Written.{clock_line, clock_to, frame_end, frame_line, lines_of}
-use Rattle.traffic.specs.declared.turn.Coming.{Coming}
+use Rattle.traffic.specs.declared.course.Coming.{Coming}
 use Rattle.script.specs.declared.faults.ScriptFault.{ScriptFault}
-use Rattle.traffic.specs.Frames.{frames_in_turn}
 use Rattle.traffic.specs.Outcome.{fault_in, outcome_unless, outcome_within}
-use Rattle.traffic.specs.Table.{judged, table_of}
+use Rattle.traffic.specs.Plan.{judged, plan_frames, table_of}
+use Rattle.traffic.specs.declared.plan.Plan.{Plan}
 use Rattle.traffic.specs.declared.frame_count.FrameCount.{FrameCount}
 use Rattle.traffic.specs.declared.frame_count.FrameCount.TheVariants.{Few}
 use Rattle.traffic.specs.declared.table.Stream.{Stream}
@@ -463,16 +463,16 @@ module _ (counted : FrameCount) (frames : List Coming) (script : List ℕ) (are 
       front (MAX_LINES - count) script frames are (omega (arith, is.0, is.1))
       ∙ ap (λ x. Some (merged_lines None x frames)) (all_passed (MAX_LINES - count) (script_of script) f)
 
-of_table : (fault : Option (ℕ × ScriptFault)) (counted : FrameCount) (streams : List Stream) (script : List ℕ) → AreComing (frames_in_turn streams) → (outcome_unless fault counted streams (script_of script)).fault ≡ None
-    → lines_in (script_of (outcome_unless fault counted streams (script_of script)).text) ≡ Some (merged_lines None (script_of script) (frames_in_turn streams))
-of_table (Some (number, fault)) counted streams script are e = absurd cc
-of_table None counted streams script are e = of_taken counted (frames_in_turn streams) script are (lines_taken (line_count None (frames_in_turn streams))) refl e
+of_table : (plan : Plan) (fault : Option (ℕ × ScriptFault)) (counted : FrameCount) (streams : List Stream) (script : List ℕ) → AreComing (plan_frames plan streams) → (outcome_unless plan fault counted streams (script_of script)).fault ≡ None
+    → lines_in (script_of (outcome_unless plan fault counted streams (script_of script)).text) ≡ Some (merged_lines None (script_of script) (plan_frames plan streams))
+of_table plan (Some (number, fault)) counted streams script are e = absurd cc
+of_table plan None counted streams script are e = of_taken counted (plan_frames plan streams) script are (lines_taken (line_count None (plan_frames plan streams))) refl e
 
 pub merged_law : MergedLaw
 merged_law = record {
-  whole = λ from table script e.
+  whole = λ plan table script e.
       let lines = script_of table in
-      of_table (table_of from lines).fault (counted_in (judged from) (Few 0) lines) (table_of from lines).streams script (table_coming from lines) e;
+      of_table plan (table_of plan lines).fault (counted_in (judged plan) (Few 0) lines) (table_of plan lines).streams script (table_coming plan lines) e;
   front = front;
   words = passed_words;
   frames = frame_says;

@@ -1,8 +1,9 @@
 -- Frames by rising moment.
-use Rattle.std.proofs.Common.{◌≡◌, ◌<◌, ◌≤◌, ◌+◌, ◌*◌, ◌-◌, ℕ, zero, suc, List, [], ◌∷◌, ◌++◌, Bool, true, false, cond, Some, None, refl, ap, ◌∙◌, arith, le_refl, le_trans, mul-le-mul_left}
+use Rattle.std.proofs.Common.{◌≡◌, ◌<◌, ◌≤◌, ◌+◌, ◌-◌, ℕ, zero, suc, List, [], ◌∷◌, ◌++◌, Bool, true, false, cond, Some, None, refl, ap, ◌∙◌, arith, le_refl, le_trans}
 use Rattle.std.proofs.lemmas.Bool.{le-leb, lt-leb}
-use Rattle.traffic.specs.Words.{by_moment, earliest, first_of, frame_after, frames_after, Stream, Coming}
+use Rattle.traffic.specs.Words.{by_moment, first_of, frame_after, frames_after, moment_after, Coming, Course}
 use Rattle.traffic.specs.Frames.{insert}
+use Rattle.traffic.proofs.CourseLaws.{no_earlier}
 
 -- no frame comes before a moment
 abbrev pub FromOn : ℕ → List Coming → Type 0
@@ -18,18 +19,16 @@ from_earlier m n [] le h = tt
 from_earlier m n (f ∷ fs) le h = (le_trans le h.0, from_earlier m n fs le h.1)
 
 -- the frames of a stream rise
-pub rising : (s : Stream) (k n : ℕ) → FromOn (earliest s + s.period * k) (frames_after s k n)
+pub rising : (c : Course) (k n : ℕ) → FromOn (moment_after c k) (frames_after c k n)
 unfolding frames_after
-rising s k zero = tt
-rising s k (suc n) =
-    let on : s.period * k ≤ s.period * (k + 1) = mul-le-mul_left s.period (let l : k ≤ k + 1 = omega arith in l) in
-    (le_refl _, from_earlier (earliest s + s.period * k) (earliest s + s.period * (k + 1)) (frames_after s (k + 1) n) (omega (arith, on)) (rising s (k + 1) n))
+rising c k zero = tt
+rising c k (suc n) = (le_refl _, from_earlier (moment_after c k) (moment_after c (k + 1)) (frames_after c (k + 1) n) (no_earlier c k) (rising c (k + 1) n))
 
 -- the first of them, if there is one
-pub first_is : (s : Stream) (k n : ℕ) (f : Coming) → first_of (frames_after s k n) ≡ Some f → f.moment ≡ earliest s + s.period * k
+pub first_is : (c : Course) (k n : ℕ) (f : Coming) → first_of (frames_after c k n) ≡ Some f → f.moment ≡ moment_after c k
 unfolding frames_after
-first_is s k zero f e = absurd cc
-first_is s k (suc n) f e = cc
+first_is c k zero f e = absurd cc
+first_is c k (suc n) f e = cc
 
 pub none_first : (fs : List Coming) → first_of fs ≡ None → fs ≡ []
 none_first [] e = refl
@@ -75,15 +74,15 @@ unfolding by_moment
 sorted_none = refl
 
 -- what is to come, by the frame that is taken
-pub taken : (s : Stream) (k n m : ℕ) (f : Coming) → first_of (frames_after s k n) ≡ Some f → m ≡ n - 1 → frames_after s k n ≡ f ∷ frames_after s (k + 1) m
+pub taken : (c : Course) (k n m : ℕ) (f : Coming) → first_of (frames_after c k n) ≡ Some f → m ≡ n - 1 → frames_after c k n ≡ f ∷ frames_after c (k + 1) m
 unfolding frames_after
-taken s k zero m f e less = absurd cc
-taken s k (suc n) m f e less =
-    let first : frame_after s k ≡ f = cc in
+taken c k zero m f e less = absurd cc
+taken c k (suc n) m f e less =
+    let first : frame_after c k ≡ f = cc in
     let rest : n ≡ m = omega (arith, less) in
-    ap (λ g. g ∷ frames_after s (k + 1) n) first ∙ ap (λ j. f ∷ frames_after s (k + 1) j) rest
+    ap (λ g. g ∷ frames_after c (k + 1) n) first ∙ ap (λ j. f ∷ frames_after c (k + 1) j) rest
 
-pub some_left : (s : Stream) (k n : ℕ) (f : Coming) → first_of (frames_after s k n) ≡ Some f → 0 < n
+pub some_left : (c : Course) (k n : ℕ) (f : Coming) → first_of (frames_after c k n) ≡ Some f → 0 < n
 unfolding frames_after
-some_left s k zero f e = absurd cc
-some_left s k (suc n) f e = omega arith
+some_left c k zero f e = absurd cc
+some_left c k (suc n) f e = omega arith

@@ -13,7 +13,7 @@ use Rattle.script.specs.Requests.{clock_event, clock_with, frame_event, frame_wi
 use Rattle.script.specs.declared.faults.ScriptFault.TheVariants.{ClockTooLate}
 use Rattle.script.specs.declared.script_line.Said.TheVariants as Says
 use Rattle.traffic.specs.Merged.{IsComing, clock_words, frame_words, tag_words}
-use Rattle.traffic.specs.declared.turn.Coming.{Coming}
+use Rattle.traffic.specs.declared.course.Coming.{Coming}
 
 -- ---- decimal numbers
 

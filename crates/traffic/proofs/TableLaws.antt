@@ -1,9 +1,7 @@
 -- One line more of a table, and the ends.
 use Rattle.std.proofs.Common.{◌≡◌, ℕ, List, [], ◌∷◌, ◌++◌, Option, Some, None, Result, Ok, Err, true, false, refl, sym, ap, ◌∙◌, subst, append_assoc, append-nil}
-use Rattle.std.proofs.lemmas.Grind.{flat_map-append}
 use Rattle.std.specs.Prelude.{IfSome}
-use Rattle.std.specs.List.{flat_map}
-use Rattle.traffic.specs.Words.{words_of, Script, End, Broken, Line, Advances, Limit, LineFault, limit_fault, frames_of, IsUntaken, ReadsTable, TakesLine, line_judged, left_of, Fault, Stream, Turn}
+use Rattle.traffic.specs.Words.{words_of, Script, End, Broken, Line, Advances, Limit, LineFault, limit_fault, IsUntaken, ReadsTable, TakesLine, line_judged, Fault, Stream}
 use Rattle.line_reader.specs.declared.lines.LineFault.TheVariants as LineFaults
 use Rattle.job.specs.Lines.{fault_of_line}
 use Rattle.job.specs.declared.fault.Fault.TheVariants as Faults
@@ -114,7 +112,3 @@ module _ (judge : Stream → Result Stream ScriptFault) where
     untaken {T} {f} Untakens.Memory fault (Some all) before now left s t old new g a e is h =
         let P : Result T (Fault BadLine) → Type 0 = λ x. ReadsTable x (table_by judge all) old new in
         subst P (sym (h ∙ ap Err is)) tt
-
--- what is to come, one stream more
-pub pushed : (turns new : List Turn) (t : Turn) (stream : Stream) → new ≡ turns ++ t ∷ [] → left_of t ≡ frames_of stream → flat_map left_of new ≡ flat_map left_of turns ++ frames_of stream
-pushed turns new t stream is frames = ap (flat_map left_of) is ∙ flat_map-append left_of turns (t ∷ []) ∙ ap (λ fs. flat_map left_of turns ++ fs) (append-nil (left_of t) ∙ frames)

@@ -1,8 +1,10 @@
 pub mod Faults
 pub mod Parts
+pub mod Draws
 pub mod Table
 pub mod TableRead
 pub mod Frames
+pub mod Plan
 pub mod Head
 pub mod Kept
 pub mod Tournament

@@ -7,7 +7,7 @@ use Rattle.script.specs.declared.script_line.Said.{Said}
 use Rattle.script.specs.declared.script_line.Said.TheVariants as Says
 use Rattle.script.specs.declared.faults.ScriptFault.{ScriptFault}
 use Rattle.traffic.specs.Written.{lines_of}
-use Rattle.traffic.specs.declared.turn.Coming.{Coming}
+use Rattle.traffic.specs.declared.course.Coming.{Coming}
 
 -- 1. The moment of a line
 

@@ -9,12 +9,12 @@ use Rattle.abstract_port.specs.declared.Event.TheVariants.{Arrive, Clock}
 use Rattle.words.specs.Words.{words_of}
 use Rattle.script.specs.Requests.{said_in}
 use Rattle.script.specs.declared.script_line.Said.TheVariants as Says
-use Rattle.traffic.specs.Frames.{frames_in_turn}
 use Rattle.traffic.specs.Merge.{clock_after, frames_before, frames_from, merged, moment_of, passed_line}
 use Rattle.traffic.specs.Outcome.{outcome_of}
-use Rattle.traffic.specs.Table.{table_of}
+use Rattle.traffic.specs.Plan.{plan_frames, table_of}
 use Rattle.traffic.specs.Room.{line_count, passed_on}
-use Rattle.traffic.specs.declared.turn.Coming.{Coming}
+use Rattle.traffic.specs.declared.course.Coming.{Coming}
+use Rattle.traffic.specs.declared.plan.Plan.{Plan}
 
 -- 1. The lines of a merged script, without their line feeds
 
@@ -71,8 +71,8 @@ AreComing (f ∷ fs) = IsComing f × AreComing fs
 -- any frames, where their lines and the room for those of the script are together a script's. 3. A line as it is passed on has the words of the line.
 -- 4. The line of a frame says that frame, and a clock line its moment.
 pub record MergedLaw : Type 0 where
-  pub whole : (from : ℕ) (table script : List ℕ) → (outcome_of from table script).fault ≡ None
-      → lines_in (script_of (outcome_of from table script).text) ≡ Some (merged_lines None (script_of script) (frames_in_turn (table_of from (script_of table)).streams))
+  pub whole : (plan : Plan) (table script : List ℕ) → (outcome_of plan table script).fault ≡ None
+      → lines_in (script_of (outcome_of plan table script).text) ≡ Some (merged_lines None (script_of script) (plan_frames plan (table_of plan (script_of table)).streams))
   pub front : (room : ℕ) (script : List ℕ) (frames : List Coming) → AreComing frames → room + line_count None frames ≤ MAX_LINES
       → lines_in (script_of (merged None (passed_on room (script_of script)) frames)) ≡ Some (merged_lines None (passed_on room (script_of script)) frames)
   pub words : (line : List ℕ) → words_of (passed_line line) ≡ words_of line

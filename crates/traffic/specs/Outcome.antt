@@ -5,10 +5,10 @@ use Rattle.line_reader.specs.declared.lines.Limit.TheVariants.{TooManyLines}
 use Rattle.line_reader.specs.Script.{Script, End, Broken, Line, script_of}
 use Rattle.script.specs.Outcome.{limit_fault}
 use Rattle.script.specs.declared.faults.ScriptFault.{ScriptFault}
-use Rattle.traffic.specs.Frames.{frames_in_turn}
 use Rattle.traffic.specs.Merge.{merged}
 use Rattle.traffic.specs.Room.{counted_in, crowded_line, line_count, lines_taken, passed_on}
-use Rattle.traffic.specs.Table.{Table, judged, table_of}
+use Rattle.traffic.specs.Plan.{judged, plan_frames, table_of}
+use Rattle.traffic.specs.Table.{Table}
 use Rattle.job.specs.Outcome.{Outcome}
 use Rattle.job.specs.declared.fault.Fault.{Fault}
 use Rattle.job.specs.declared.fault.Fault.TheVariants as Faults
@@ -17,7 +17,8 @@ use Rattle.traffic.specs.declared.faults.StreamsInput.TheVariants as Inputs
 use Rattle.traffic.specs.declared.frame_count.FrameCount.{FrameCount}
 use Rattle.traffic.specs.declared.frame_count.FrameCount.TheVariants.{Few}
 use Rattle.traffic.specs.declared.table.Stream.{Stream}
-use Rattle.traffic.specs.declared.turn.Coming.{Coming}
+use Rattle.traffic.specs.declared.course.Coming.{Coming}
+use Rattle.traffic.specs.declared.plan.Plan.{Plan}
 
 -- the fault of a script: that of a line that passes a limit. What a line says is no matter here.
 unfoldable pub fault_in : Script → Option StreamsInput
@@ -47,18 +48,18 @@ abbrev pub outcome_among : FrameCount → List Coming → Script → Outcome Str
 outcome_among counted frames script = outcome_within (lines_taken (line_count None frames)) counted frames script
 
 -- the outcome of a table's streams and the lines of a script: where the table has a fault nothing is written
-abbrev pub outcome_unless : Option (ℕ × ScriptFault) → FrameCount → List Stream → Script → Outcome StreamsInput
-outcome_unless None counted streams script = outcome_among counted (frames_in_turn streams) script
-outcome_unless (Some (number, fault)) counted streams script = record { text = []; fault = Some (Inputs.Table number fault) }
+abbrev pub outcome_unless : Plan → Option (ℕ × ScriptFault) → FrameCount → List Stream → Script → Outcome StreamsInput
+outcome_unless plan None counted streams script = outcome_among counted (plan_frames plan streams) script
+outcome_unless plan (Some (number, fault)) counted streams script = record { text = []; fault = Some (Inputs.Table number fault) }
 
 -- the outcome of a table and a script, by how many frames the table has
-abbrev pub outcome_in : FrameCount → Table → Script → Outcome StreamsInput
-outcome_in counted table script = outcome_unless table.fault counted table.streams script
+abbrev pub outcome_in : Plan → FrameCount → Table → Script → Outcome StreamsInput
+outcome_in plan counted table script = outcome_unless plan table.fault counted table.streams script
 
 -- the outcome of the lines of both
-abbrev pub outcome_by_lines : ℕ → Script → Script → Outcome StreamsInput
-outcome_by_lines from table script = outcome_in (counted_in (judged from) (Few 0) table) (table_of from table) script
+abbrev pub outcome_by_lines : Plan → Script → Script → Outcome StreamsInput
+outcome_by_lines plan table script = outcome_in plan (counted_in (judged plan) (Few 0) table) (table_of plan table) script
 
--- the outcome by the octets of both inputs, with each frame so much later; a script with no octets is none
-abbrev pub outcome_of : ℕ → List ℕ → List ℕ → Outcome StreamsInput
-outcome_of from table script = outcome_by_lines from (script_of table) (script_of script)
+-- the outcome by the octets of both inputs, as a plan has the frames; a script with no octets is none
+abbrev pub outcome_of : Plan → List ℕ → List ℕ → Outcome StreamsInput
+outcome_of plan table script = outcome_by_lines plan (script_of table) (script_of script)

@@ -13,7 +13,7 @@ use Rattle.traffic.specs.declared.frame_count.TheConstants.{MOST_FRAMES}
 use Rattle.traffic.specs.declared.room.ScriptRoom.{ScriptRoom}
 use Rattle.traffic.specs.declared.room.ScriptRoom.TheVariants.{AtLeast, Exactly}
 use Rattle.traffic.specs.declared.table.Stream.{Stream}
-use Rattle.traffic.specs.declared.turn.Coming.{Coming}
+use Rattle.traffic.specs.declared.course.Coming.{Coming}
 
 -- 1. The lines of the frames
 

@@ -1,7 +1,8 @@
 -- What a run of the program on a table and a script leaves: its exit status, what the writer got, and the text of a fault.
-use Rattle.std.specs.Prelude.{List, ℕ, Option, Some, None, Result, Ok, Err, IfSome, unwrap_or, codes}
+use Rattle.std.specs.Prelude.{List, ℕ, Bool, if◌then◌else◌, Option, Some, None, Result, Ok, Err, IfSome, unwrap_or, codes}
 use Rattle.wire_time.specs.Moment.{greatest_moment}
 use Rattle.times.specs.Times.{moment_in}
+use Rattle.script.specs.Given.{octets_of}
 use Rattle.script.specs.ScriptEnd.{IsRefusal}
 use Rattle.script.specs.declared.settings.BadValue.{BadValue}
 use Rattle.script.specs.declared.settings.BadValue.TheVariants as Values
@@ -10,12 +11,16 @@ use Rattle.job.specs.Outcome.{RunsOut}
 use Rattle.job.specs.declared.report.Ended.{Ended}
 use Rattle.traffic.specs.Faults.{streams_telling}
 use Rattle.traffic.specs.Outcome.{outcome_of}
+use Rattle.traffic.specs.declared.plan.Plan.{Plan}
+use Rattle.traffic.specs.declared.plan.Timing.{Timing}
+use Rattle.traffic.specs.declared.plan.Timing.TheVariants.{Earliest, Latest}
+use Rattle.traffic.specs.declared.streams_job.StreamsWords.{StreamsWords}
 
--- The end of a run whose frames come so much later: what the writer got, with what no write let out, is what is to be written for the octets of
+-- The end of a run by a plan: what the writer got, with what no write let out, is what is to be written for the octets of
 -- the table and of the script, or after a fault of a call's a prefix of it.
-abbrev pub IsMergedEnding : ℕ → (table script : Option (List ℕ)) → Ended → (old got errors_old errors_new : Option (List ℕ)) → Type 0
-IsMergedEnding from table script ended old got errors_old errors_new =
-    IsRunEnding streams_telling (λ run. IsLetOut run got (λ out. IfSome table (λ streams. IfSome script (λ lines. RunsOut run old out (outcome_of from streams lines))))) ended errors_old errors_new
+abbrev pub IsMergedEnding : Plan → (table script : Option (List ℕ)) → Ended → (old got errors_old errors_new : Option (List ℕ)) → Type 0
+IsMergedEnding plan table script ended old got errors_old errors_new =
+    IsRunEnding streams_telling (λ run. IsLetOut run got (λ out. IfSome table (λ streams. IfSome script (λ lines. RunsOut run old out (outcome_of plan streams lines))))) ended errors_old errors_new
 
 -- a moment, if there is one
 abbrev pub moment_where : Option ℕ → Result ℕ BadValue
@@ -26,7 +31,27 @@ moment_where None = Err Values.From
 abbrev pub from_given : Option (List ℕ) → Result ℕ BadValue
 from_given from = moment_where (moment_in greatest_moment (unwrap_or from (codes "0")))
 
--- by the moment that is given
-abbrev pub IsStreamsEnding : Result ℕ BadValue → (table script : Option (List ℕ)) → Ended → (old got errors_old errors_new : Option (List ℕ)) → Type 0
-IsStreamsEnding (Ok from) table script ended old got errors_old errors_new = IsMergedEnding from table script ended old got errors_old errors_new
+-- when frames come
+abbrev pub timing_given : Bool → Timing
+timing_given late = if late then Latest else Earliest
+
+-- the words that stand as the values of the options
+pub record GivenWords : Type 0 where
+  pub from : Option (List ℕ)
+  pub late : Bool
+
+abbrev pub words_of_streams : StreamsWords → GivenWords
+words_of_streams words = record { from = octets_of words.from; late = words.late }
+
+-- what is given to the options
+abbrev pub plan_where : Bool → Result ℕ BadValue → Result Plan BadValue
+plan_where late (Ok from) = Ok (record { from = from; timing = timing_given late })
+plan_where late (Err value) = Err value
+
+abbrev pub plan_given : GivenWords → Result Plan BadValue
+plan_given words = plan_where words.late (from_given words.from)
+
+-- by the plan that is given
+abbrev pub IsStreamsEnding : Result Plan BadValue → (table script : Option (List ℕ)) → Ended → (old got errors_old errors_new : Option (List ℕ)) → Type 0
+IsStreamsEnding (Ok plan) table script ended old got errors_old errors_new = IsMergedEnding plan table script ended old got errors_old errors_new
 IsStreamsEnding (Err value) table script ended old got errors_old errors_new = IsRefusal value ended old got errors_old errors_new

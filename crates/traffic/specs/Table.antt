@@ -1,5 +1,5 @@
 -- What the lines of a table of streams say.
-use Rattle.std.specs.Prelude.{◌≤◌, ◌^◌, ◌-◌, ◌+◌, ◌*◌, nat_le, List, ℕ, Bool, [], ◌∷◌, Option, Some, None, Result, Ok, Err, unwrap_or, codes, if◌then◌else◌}
+use Rattle.std.specs.Prelude.{◌≤◌, ◌^◌, ◌-◌, ◌+◌, nat_le, List, ℕ, Bool, [], ◌∷◌, Option, Some, None, Result, Ok, Err, unwrap_or, codes, if◌then◌else◌}
 use Rattle.std.specs.Str.{bytes_eq}
 use Rattle.wire_time.specs.Moment.{greatest_moment}
 use Rattle.words.specs.Words.{words_of}
@@ -9,7 +9,7 @@ use Rattle.line_reader.specs.Script.{Script, End, Broken, Line}
 use Rattle.script.specs.Outcome.{limit_fault}
 use Rattle.script.specs.Requests.{is_comment}
 use Rattle.script.specs.declared.faults.ScriptFault.{ScriptFault}
-use Rattle.script.specs.declared.faults.ScriptFault.TheVariants.{UnknownLine, WordCount, BadNumber, ClockTooLate}
+use Rattle.script.specs.declared.faults.ScriptFault.TheVariants.{UnknownLine, WordCount, BadNumber}
 use Rattle.traffic.specs.declared.table.Stream.{Stream}
 use Rattle.traffic.specs.Parts.{ends_in}
 use Rattle.traffic.specs.declared.parts.Ends.{Ends}
@@ -26,30 +26,14 @@ pub record HasTimes (s : Stream) : Type 0 where
   pub offset : earliest s ≤ greatest_moment
   pub jitter : s.jitter ≤ greatest_moment
 
--- a stream with each frame so much later
-abbrev pub moved : ℕ → Stream → Stream
-moved from s = record s { offset = Some (from + earliest s) }
+-- what a line may say of a stream
+pub record IsSaid (s : Stream) : Type 0 where
+  pub times : HasTimes s
+  pub lengths : s.shortest ≤ s.len
 
 -- the ids of a stream's frames are all less than 2^64
 abbrev pub has_ids : Stream → Bool
 has_ids s = nat_le (s.first_id + s.count) (2 ^ 64)
-
--- its last frame comes by the greatest moment, however late it may be
-abbrev pub ends_in_time : Stream → Bool
-ends_in_time s = nat_le (earliest s + s.jitter + s.period * (s.count - 1)) greatest_moment
-
--- a stream whose frames can be frames of a script
-pub record IsStream (s : Stream) : Type 0 where
-  pub ids : s.first_id + s.count ≤ 2 ^ 64
-  pub ends : earliest s + s.jitter + s.period * (s.count - 1) ≤ greatest_moment
-
--- such a stream, or its fault
-abbrev pub judged_now : Stream → Result Stream ScriptFault
-judged_now s = if has_ids s then (if ends_in_time s then Ok s else Err ClockTooLate) else Err BadNumber
-
--- a stream with each frame so much later, whose frames can be frames of a script, or its fault
-abbrev pub judged : ℕ → Stream → Result Stream ScriptFault
-judged from s = judged_now (moved from s)
 
 -- by a number, where a word is one
 abbrev pub by_number : Option ℕ → (ℕ → Result Stream ScriptFault) → Result Stream ScriptFault
@@ -155,7 +139,3 @@ unfoldable pub table_by : (Stream → Result Stream ScriptFault) → Script → 
 table_by judge End = record { streams = []; fault = None }
 table_by judge (Broken number limit) = record { streams = []; fault = Some (number, limit_fault limit) }
 table_by judge (Line number octets rest) = with_line number (line_judged judge (words_of octets)) (table_by judge rest)
-
--- the table of frames of a script, each so much later
-abbrev pub table_of : ℕ → Script → Table
-table_of from script = table_by (judged from) script

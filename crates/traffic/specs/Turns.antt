@@ -3,11 +3,11 @@ use Rattle.std.specs.Prelude.{ℕ, ◌+◌, ◌-◌, nat_lt, if◌then◌else◌
 use Rattle.std.specs.List.{flat_map}
 use Rattle.traffic.specs.Frames.{by_moment, first_of, frames_after}
 use Rattle.traffic.specs.declared.turn.Turn.{Turn}
-use Rattle.traffic.specs.declared.turn.Coming.{Coming}
+use Rattle.traffic.specs.declared.course.Coming.{Coming}
 
 -- what is to come of a stream
 abbrev pub left_of : Turn → List Coming
-left_of t = frames_after t.stream t.come (t.stream.count - t.come)
+left_of t = frames_after t.course t.come (t.course.count - t.come)
 
 -- the next frame of a stream
 abbrev pub next_of : Turn → Option Coming

@@ -2,7 +2,7 @@
 use Rattle.std.specs.Prelude.{ℕ, ◌==◌, List, [], ◌∷◌, ◌++◌, Option, Some, None, Bool, true, false, decimal, codes, if◌then◌else◌}
 use Rattle.std.specs.List.{concat}
 use Rattle.wire_time.specs.declared.Frame.{Frame}
-use Rattle.traffic.specs.declared.turn.Coming.{Coming}
+use Rattle.traffic.specs.declared.course.Coming.{Coming}
 
 -- the clock line of a moment
 abbrev pub clock_line : ℕ → List ℕ

@@ -3,8 +3,9 @@
 ghost use Rattle.std.specs.Prelude.{◌≡◌, ◌≤◌, ◌++◌, OnOk, take};
 ghost use Rattle.traffic.specs.Words.{IsTournament, Writes, clock_line, clock_to, frame_line, lines_of, frames_before, frames_from, left_of_all};
 
+use crate::course::Coming;
 use crate::tournament::Node;
-use crate::turn::{Coming, Turn};
+use crate::turn::Turn;
 use crate::turns::{next_before, next_frame};
 use answer_text::WriteFault;
 use decimal_text::{put_number, put_octet, put_short, put_text};

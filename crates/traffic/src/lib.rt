@@ -5,6 +5,8 @@
 //! specs/Room.antt; the contracts of `write_streams` and `answer_streams` cite it.
 #![tactic(auto)]
 
+mod course;
+mod draws;
 mod faults;
 mod frame_count;
 mod frame_lines;
@@ -12,6 +14,7 @@ mod kept;
 pub mod laws;
 mod merge;
 mod parts;
+mod plan;
 mod room;
 mod streams;
 mod streams_job;
@@ -23,7 +26,8 @@ mod turns;
 
 pub use faults::{StreamsFault, StreamsInput, table_fault};
 pub use frame_count::FrameCount;
+pub use plan::{Plan, Timing};
 pub use streams::write_streams;
-pub use streams_job::{answer_streams, from_given};
+pub use streams_job::{StreamsWords, answer_streams, plan_given};
 pub use table::{Stream, earliest, has_ids, tell_stream};
 pub use table_reader::{StreamTaker, Untaken, read_table};

@@ -1,12 +1,13 @@
 //! A table of streams becomes a script.
 
 ghost use Rattle.std.specs.Prelude.{◌≡◌, ◌≤◌, All, IfSome};
-ghost use Rattle.traffic.specs.Words.{AreCounted, IsStream, Runs, crowded, frames_in_turn, greatest_moment, outcome_among, outcome_by_lines, outcome_of, script_left};
+ghost use Rattle.traffic.specs.Words.{AreCounted, IsKept, Runs, crowded, greatest_moment, judged, outcome_among, outcome_by_lines, outcome_of, plan_frames, script_left};
 
 use crate::faults::{StreamsFault, StreamsInput, table_fault};
 use crate::frame_count::FrameCount;
 use crate::kept::{KeptStreams, turns_of};
 use crate::merge::write_merged;
+use crate::plan::Plan;
 use crate::room::script_room;
 use crate::table::Stream;
 use crate::table_reader::read_table;
@@ -29,17 +30,19 @@ fn crowded(counted: FrameCount) -> StreamsFault
 /// nothing is written.
 fn write_streams_read<A: Allocator, B: Allocator + Clone, R: Read + Drop, W: PutLine, H: Watch>(
     alloc: &B,
+    plan: &Plan,
     streams: &[Stream],
     counted: FrameCount,
     script: &mut LineReader<R, A>,
     writer: &mut W,
     watch: &mut H,
 ) -> Result<(), StreamsFault>
-    requires fit { All IsStream streams.now }
-    requires counted { AreCounted counted (frames_in_turn streams.now) }
-    ensures { IfSome (script_left R.remaining script.old) (λ script. Runs result (W.contents writer.old) (W.contents writer.new) (outcome_among counted (frames_in_turn streams.now) script)) }
+    requires from { plan.now.from ≤ greatest_moment }
+    requires kept { All (IsKept (judged plan.now)) streams.now }
+    requires counted { AreCounted counted (plan_frames plan.now streams.now) }
+    ensures { IfSome (script_left R.remaining script.old) (λ script. Runs result (W.contents writer.old) (W.contents writer.new) (outcome_among counted (plan_frames plan.now streams.now) script)) }
 {
-    let mut turns = turns_of(alloc, streams)?;
+    let mut turns = turns_of(alloc, plan, streams)?;
     let mut uncounted = turns.to_vec(alloc)?;
     let uncounted = uncounted.as_mut_slice();
     let Some(room) = script_room(alloc, uncounted, counted)? else {
@@ -72,15 +75,17 @@ fn write_table<
     table: &mut LineReader<R, A>,
     script: &mut LineReader<S, A>,
     writer: &mut W,
-    from: u128,
+    plan: Plan,
     watch: &mut H,
 ) -> Result<(), StreamsFault>
-    requires { from ≤ greatest_moment }
-    ensures { IfSome (script_left R.remaining table.old) (λ table. IfSome (script_left S.remaining script.old) (λ script. Runs result (W.contents writer.old) (W.contents writer.new) (outcome_by_lines from table script))) }
+    requires { plan.from ≤ greatest_moment }
+    ensures { IfSome (script_left R.remaining table.old) (λ table. IfSome (script_left S.remaining script.old) (λ script. Runs result (W.contents writer.old) (W.contents writer.new) (outcome_by_lines plan table script))) }
 {
-    let mut kept = KeptStreams::new(alloc, from);
+    let mut kept = KeptStreams::new(alloc, plan);
     match read_table(table, &mut kept, watch) {
-        Ok(counted) => { write_streams_read(alloc, kept.streams(), counted, script, writer, watch) }
+        Ok(counted) => {
+            write_streams_read(alloc, &plan, kept.streams(), counted, script, writer, watch)
+        }
         Err(fault) => Err(table_fault(fault)),
     }
 }
@@ -88,7 +93,8 @@ fn write_table<
 /// Reads a table of streams to its end, and then writes a script that has the frames of all of them: each after a clock
 /// line of its moment, which stands once, by rising moment, and at one moment in the order of the table. Among them it
 /// puts in the lines of another script, each at its moment and before the frames of that moment; where that script has
-/// no octets there are the frames alone. `from`, in picoseconds, is added to each offset.
+/// no octets there are the frames alone. `plan` says from which moment offsets count, and when frames come that may come
+/// at several moments.
 ///
 /// A malformed line of the table is the fault, and nothing is written; so it is where the frames take more lines than a
 /// script may have, at the line with which there are more than 2,000,000 of them. What the lines of the script say is
@@ -102,13 +108,13 @@ pub fn write_streams<A: Allocator, R: Read + Drop, S: Read + Drop, W: PutLine, H
     table: R,
     script: S,
     writer: &mut W,
-    from: u128,
+    plan: Plan,
     watch: &mut H,
 ) -> Result<(), StreamsFault>
-    requires { from ≤ greatest_moment }
-    ensures { IfSome (R.remaining table) (λ table. IfSome (S.remaining script) (λ script. Runs result (W.contents writer.old) (W.contents writer.new) (outcome_of from table script))) }
+    requires { plan.from ≤ greatest_moment }
+    ensures { IfSome (R.remaining table) (λ table. IfSome (S.remaining script) (λ script. Runs result (W.contents writer.old) (W.contents writer.new) (outcome_of plan table script))) }
 {
     let mut table = LineReader::new(&alloc, table)?;
     let mut script = LineReader::new(&alloc, script)?;
-    write_table(&&alloc, &mut table, &mut script, writer, from, watch)
+    write_table(&&alloc, &mut table, &mut script, writer, plan, watch)
 }

@@ -2,8 +2,9 @@
 
 ghost use Rattle.std.specs.Prelude.{◌≡◌, ◌≤◌, IfErr, IfOk};
 ghost use Rattle.octet_writer.specs.Buffered.{writer_contents};
-ghost use Rattle.traffic.specs.Words.{octets_of, IsStreamsEnding, from_given, greatest_moment};
+ghost use Rattle.traffic.specs.Words.{octets_of, IsStreamsEnding, from_given, greatest_moment, plan_given, words_of_streams};
 
+use crate::plan::{Plan, Timing};
 use crate::streams::write_streams;
 use job::{Ended, Errors, end_run};
 use octet_writer::BufWriter;
@@ -13,8 +14,17 @@ use std::io::{Read, Write};
 use times::moment;
 use wire_time::MAX_MOMENT;
 
+/// The words that stand as the values of the options.
+#[derive(Clone, Copy, Debug)]
+pub struct StreamsWords<'a> {
+    /// The moment from which offsets count; 0 where none is given.
+    pub from: Option<&'a str>,
+    /// Whether each frame comes as late as it may.
+    pub late: bool,
+}
+
 /// The moment that is given, in picoseconds, 0 where none is; or that it is bad: no moment, or after the greatest one.
-pub fn from_given(from: Option<&str>) -> Result<u128, BadValue>
+fn from_given(from: Option<&str>) -> Result<u128, BadValue>
     ensures given { result ≡ from_given (octets_of from.entry) }
     ensures within { IfOk result (λ moment. moment ≤ greatest_moment) }
 {
@@ -25,9 +35,25 @@ pub fn from_given(from: Option<&str>) -> Result<u128, BadValue>
     }
 }
 
+/// What is given: a bad moment is refused.
+pub fn plan_given(words: StreamsWords<'_>) -> Result<Plan, BadValue>
+    ensures given { result ≡ plan_given (words_of_streams words.entry) }
+    ensures within { IfOk result (λ plan. plan.from ≤ greatest_moment) }
+{
+    let timing = if words.late {
+        Timing::Latest
+    } else {
+        Timing::Earliest
+    };
+    match from_given(words.from) {
+        Ok(from) => Ok(Plan { from, timing }),
+        Err(value) => Err(value),
+    }
+}
+
 /// Writes the script of the table of streams that `reader` gives through `answers`, with the lines of `script` among
-/// the frames, and with the text of a fault on `errors`; and gives the writer of the answers back. `from` is a moment
-/// in picoseconds, which is added to each offset; where it is bad nothing is read. What was written is let out before a
+/// the frames, and with the text of a fault on `errors`; and gives the writer of the answers back. The words
+/// say how the frames come; where one is bad nothing is read. What was written is let out before a
 /// fault is reported; after a failed write no other is tried.
 pub fn answer_streams<
     A: Allocator,
@@ -39,19 +65,19 @@ pub fn answer_streams<
     H: Watch,
 >(
     alloc: A,
-    from: Option<&str>,
+    words: StreamsWords<'_>,
     reader: &mut R,
     script: S,
     mut answers: BufWriter<W, B>,
     errors: &mut E,
     watch: &mut H,
 ) -> (Ended, W)
-    ensures ending { IsStreamsEnding (from_given (octets_of from.entry)) (R.remaining reader.old) (S.remaining script) result.0 (writer_contents W.contents answers) (W.contents result.1) (E.contents errors.old) (E.contents errors.new) }
-    ensures unread { IfErr (from_given (octets_of from.entry)) (λ _. reader.new ≡ reader.old) }
+    ensures ending { IsStreamsEnding (plan_given (words_of_streams words.entry)) (R.remaining reader.old) (S.remaining script) result.0 (writer_contents W.contents answers) (W.contents result.1) (E.contents errors.old) (E.contents errors.new) }
+    ensures unread { IfErr (plan_given (words_of_streams words.entry)) (λ _. reader.new ≡ reader.old) }
 {
-    match from_given(from) {
-        Ok(from) => {
-            let run = write_streams(alloc, reader, script, &mut answers, from, watch);
+    match plan_given(words) {
+        Ok(plan) => {
+            let run = write_streams(alloc, reader, script, &mut answers, plan, watch);
             end_run(run, answers, errors)
         }
         Err(value) => end_with_value(value, answers, errors),

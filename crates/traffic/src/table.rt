@@ -1,7 +1,7 @@
 //! What the lines of a table of streams say.
 
 ghost use Rattle.std.specs.Prelude.{◌≡◌, ◌≤◌, IfSome, IfOk};
-ghost use Rattle.traffic.specs.Words.{earliest, ends_in_time, greatest_moment, has_ids, judged, line_said, moved, offset_in, shortest_of, stream_in_words, stream_said, words_left, words_of, HasTimes, IsStream};
+ghost use Rattle.traffic.specs.Words.{earliest, greatest_moment, has_ids, line_said, offset_in, shortest_of, stream_in_words, stream_said, words_left, words_of, IsSaid};
 
 use crate::parts::{Ends, ends_in};
 use script::{ScriptFault, Watch};
@@ -44,41 +44,11 @@ pub fn earliest(stream: &Stream) -> u128
     stream.offset.unwrap_or(0)
 }
 
-/// A stream with each frame so much later, in picoseconds.
-fn moved(stream: Stream, from: u128) -> Stream
-    requires from { from ≤ greatest_moment }
-    requires times { HasTimes stream }
-    ensures moved { result ≡ moved from stream }
-{
-    Stream {
-        offset: Some(from + earliest(&stream)),
-        ..stream
-    }
-}
-
 /// Whether the ids of a stream's frames are all less than 2^64.
 pub fn has_ids(stream: &Stream) -> bool
     ensures { result ≡ has_ids stream.now }
 {
     u128::from(stream.first_id) + u128::from(stream.count) <= 1 << 64
-}
-
-/// A stream whose frames can be frames of a script, each so much later, in picoseconds; or its fault.
-pub(crate) fn judged(stream: Stream, from: u128) -> Result<Stream, ScriptFault>
-    requires from { from ≤ greatest_moment }
-    requires times { HasTimes stream }
-    ensures judged { result ≡ judged from stream }
-    ensures fits { IfOk result IsStream }
-{
-    let stream = moved(stream, from);
-    if !has_ids(&stream) {
-        return Err(ScriptFault::BadNumber);
-    }
-    let others = u128::from(stream.count.saturating_sub(1));
-    if earliest(&stream) + stream.jitter + stream.period * others > MAX_MOMENT {
-        return Err(ScriptFault::ClockTooLate);
-    }
-    Ok(stream)
 }
 
 /// The words of a stream's line after the first, without those at its end that may be left out.
@@ -120,7 +90,7 @@ fn shortest_of(said: Option<u32>, len: u32) -> Option<u32>
 /// The stream that words say.
 fn stream_in_words(words: &StreamWords<'_>, ends: Ends) -> Result<Stream, ScriptFault>
     requires { IfSome ends.jitter (λ time. time ≤ greatest_moment) }
-    ensures times { IfOk result HasTimes }
+    ensures fits { IfOk result IsSaid }
     ensures said { result ≡ stream_in_words words.now.id.now words.now.priority.now words.now.len.now words.now.period.now words.now.offset.now words.now.count.now ends }
 {
     let Some(id) = number(words.id, u128::from(u64::MAX)) else {
@@ -159,7 +129,7 @@ fn stream_in_words(words: &StreamWords<'_>, ends: Ends) -> Result<Stream, Script
 /// The stream that the words after the first say.
 fn read_stream(mut words: Words<'_>) -> Result<Stream, ScriptFault>
     ensures said { result ≡ stream_said (words_left words.entry) }
-    ensures times { IfOk result HasTimes }
+    ensures fits { IfOk result IsSaid }
 {
     let Some(id) = words.next_word() else {
         return Err(ScriptFault::WordCount);
@@ -197,7 +167,7 @@ fn read_stream(mut words: Words<'_>) -> Result<Stream, ScriptFault>
 /// not judged.
 pub fn read_stream_line(line: &[u8]) -> Result<Option<Stream>, ScriptFault>
     ensures said { result ≡ line_said (words_of line.now) }
-    ensures times { IfOk result (λ said. IfSome said HasTimes) }
+    ensures fits { IfOk result (λ said. IfSome said IsSaid) }
 {
     let mut words = Words::new(line);
     let Some(first) = words.next_word() else {

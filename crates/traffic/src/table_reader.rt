@@ -2,7 +2,7 @@
 
 ghost use Rattle.std.specs.Prelude.{◌≡◌, [], IfOk, IfSome, Ok, Err};
 ghost use Rattle.script.specs.declared.faults.BadLine.{BadLine};
-ghost use Rattle.traffic.specs.Words.{Few, HasTimes, IsCount, IsTaken, IsUntaken, ReadsTable, TakesLine, counted_in, frame_count, line_judged, script_left, table_by, words_of};
+ghost use Rattle.traffic.specs.Words.{Few, IsSaid, IsCount, IsTaken, IsUntaken, ReadsTable, TakesLine, counted_in, frame_count, line_judged, script_left, table_by, words_of};
 
 use crate::frame_count::FrameCount;
 use crate::table::{Stream, read_stream_line};
@@ -39,7 +39,7 @@ pub trait StreamTaker {
         stream: Stream,
         watch: &mut H,
     ) -> Result<Stream, Untaken>
-        requires times { HasTimes stream }
+        requires said { IsSaid stream }
         ensures judge { judge self.new ≡ judge self.old }
         ensures taken { IsTaken result (judge self.old stream) (taken self.old) (taken self.new) };
 }
@@ -88,6 +88,7 @@ pub fn read_table<T: StreamTaker, A: Allocator, R: Read + Drop, H: Watch>(
         ReadsTable result (table_by (T.judge taker.old) script) (T.taken taker.old) (T.taken taker.new)) }
     ensures counted { IfSome (script_left R.remaining lines.old) (λ script.
         IfOk result (λ counted. counted ≡ counted_in (T.judge taker.old) (Few 0) script)) }
+    ensures judge { T.judge taker.new ≡ T.judge taker.old }
     ensures few { T.taken taker.old ≡ []
         → IfOk result (λ counted. IsCount counted (frame_count (T.taken taker.new))) }
 {

@@ -76,9 +76,9 @@ fn head_of(place: usize, turn: &Turn) -> Node
     requires few { place < PLACES }
     ensures { result ≡ head_of place turn.now }
 {
-    match turn.next() {
-        Some(coming) => Node {
-            key: coming.moment * PLACES + place as u128,
+    match turn.next_moment() {
+        Some(moment) => Node {
+            key: moment * PLACES + place as u128,
         },
         None => Node::none(),
     }

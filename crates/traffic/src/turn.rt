@@ -2,71 +2,49 @@
 
 ghost use Rattle.std.specs.Prelude.{◌≡◌, ◌≤◌};
 ghost use Rattle.std.specs.Option.{ForSome};
+ghost use Rattle.traffic.specs.Frames.{IsCourse, reached_by};
 ghost use Rattle.wire_time.specs.Moment.{greatest_moment};
-ghost use Rattle.traffic.specs.Frames.{next_of_stream};
-ghost use Rattle.traffic.specs.Table.{IsStream};
 
-use crate::table::{Stream, earliest};
-use wire_time::Frame;
+use crate::course::{Coming, Course, frame_after, moment_after};
 
-/// A frame that is to come.
-#[derive(Clone, Copy)]
-pub(crate) struct Coming {
-    /// When it comes, in picoseconds.
-    pub moment: u128,
-    /// The frame.
-    pub frame: Frame,
-}
-
-/// The frame of a stream that comes after so many others of it, if there is one.
-fn frame_after(stream: &Stream, come: u32) -> Option<Coming>
-    requires fits { IsStream stream.now }
-    requires few { come ≤ stream.now.count }
-    ensures next { result ≡ next_of_stream stream.now come }
-    ensures within { ForSome result (λ f. f.moment ≤ greatest_moment) }
-{
-    if come == stream.count {
-        return None;
-    }
-    Some(Coming {
-        moment: earliest(stream) + stream.period * u128::from(come),
-        frame: Frame {
-            id: stream.first_id + u64::from(come),
-            priority: stream.priority,
-            len: stream.len,
-            tagged: stream.tagged,
-        },
-    })
-}
-
-/// A stream, how many of its frames have come, and the one that comes next.
+/// A stream, how many of its frames have come, the moment of the last of them, and so the one that comes next.
 #[derive(Clone, Copy)]
 pub(crate) struct Turn {
-    stream: Stream,
+    course: Course,
     come: u32,
-    ghost fits: { IsStream stream },
-    ghost few: { come ≤ stream.count },
+    reached: u128,
+    ghost fits: { IsCourse course },
+    ghost few: { come ≤ course.count },
+    ghost last: { reached ≡ reached_by course come },
 }
 
 impl Turn {
     ghost use Rattle.traffic.specs.Frames.{frames_of};
     ghost use Rattle.traffic.specs.Turns.{left_of, next_of};
-    ghost use Rattle.std.specs.Prelude.{◌∷◌, [], MatchOption, IfNone};
+    ghost use Rattle.std.specs.Prelude.{◌∷◌, [], MatchOption, IfNone, option_map};
 
-    /// Before the first frame of a stream.
-    pub fn first(stream: Stream) -> Turn
-        requires { IsStream stream }
-        ensures { left_of result ≡ frames_of stream }
+    /// Before the first frame.
+    pub fn first(course: Course) -> Turn
+        requires { IsCourse course }
+        ensures { left_of result ≡ frames_of course }
     {
-        Turn { stream, come: 0 }
+        Turn {
+            course,
+            come: 0,
+            reached: 0,
+        }
     }
 
-    /// The next frame of the stream, if there is one.
-    pub fn next(&self) -> Option<Coming>
-        ensures next { result ≡ next_of self.now }
-        ensures within { ForSome result (λ f. f.moment ≤ greatest_moment) }
+    /// The moment of the next frame of the stream, if there is one, in picoseconds.
+    #[inline(always)]
+    pub fn next_moment(&self) -> Option<u128>
+        ensures moment { result ≡ option_map (λ f. f.moment) (next_of self.now) }
+        ensures within { ForSome result (λ moment. moment ≤ greatest_moment) }
     {
-        frame_after(&self.stream, self.come)
+        if self.come == self.course.count {
+            return None;
+        }
+        Some(moment_after(&self.course, self.come, self.reached))
     }
 
     /// Takes the next frame of the stream, if there is one.
@@ -74,11 +52,12 @@ impl Turn {
         ensures left { MatchOption result (left_of self.old ≡ []) (λ f. left_of self.old ≡ f ∷ left_of self.new) }
         ensures same { IfNone result (self.new ≡ self.old) }
     {
-        if self.come == self.stream.count {
+        if self.come == self.course.count {
             return None;
         }
-        let coming = frame_after(&self.stream, self.come);
+        let coming = frame_after(&self.course, self.come, self.reached);
         self.come += 1;
-        coming
+        self.reached = coming.moment;
+        Some(coming)
     }
 }

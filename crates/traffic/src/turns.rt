@@ -3,8 +3,9 @@
 ghost use Rattle.std.specs.Prelude.{◌≡◌, ◌∷◌, [], MatchOption};
 ghost use Rattle.traffic.specs.Words.{IsTournament, frames_before, frames_from, left_of_all};
 
+use crate::course::Coming;
 use crate::tournament::{Head, Node, first, follow};
-use crate::turn::{Coming, Turn};
+use crate::turn::Turn;
 
 /// Takes the frame that comes next of all streams, if there is one; at one moment that of the first stream in the
 /// table.

@@ -6,7 +6,7 @@ use in_memory::{ReplayRan, replay_octets};
 use replay::Stamp;
 use script::Unwatched;
 use std::alloc::Global;
-use traffic::write_streams;
+use traffic::{Plan, write_streams};
 
 /// How many lines or records an input has.
 const MANY: usize = 5_000;
@@ -87,7 +87,14 @@ fn long_scripts_and_pictures_are_written(rt: HostRuntime) {
     let end = b"\nclock 2499000000\nframe 2500 5 60\n";
     assert!(rt; is_written(Job::Streams, alloc, [TABLE, b""], end));
     let mut script = Vec::new(alloc);
-    let run = write_streams(alloc, TABLE, b"".as_slice(), &mut script, 0, &mut Unwatched);
+    let run = write_streams(
+        alloc,
+        TABLE,
+        b"".as_slice(),
+        &mut script,
+        Plan::earliest(0),
+        &mut Unwatched,
+    );
     assert!(rt; run.is_ok());
     assert!(rt; is_written(Job::Draw, alloc, [script.as_slice(), b""], b"</svg>\n"));
 }

@@ -1,15 +1,16 @@
 use Rattle.std.proofs.Common.{◌≡◌, List, ℕ, Option, Some, Result, Ok, codes, inr, ap, sym, ◌∙◌, subst}
 use Rattle.octet_writer.specs.Buffered.{writer_contents}
 use Rattle.clap.specs.Matches.{first_value, found_of}
-use Rattle.program.specs.Given.{IsGivenStreams, from_in}
+use Rattle.program.specs.Given.{IsGivenStreams, plan_in}
 use Rattle.script.specs.declared.settings.BadValue.{BadValue}
-use Rattle.traffic.specs.StreamsEnd.{from_given}
+use Rattle.traffic.specs.StreamsEnd.{plan_given}
+use Rattle.traffic.specs.declared.plan.Plan.{Plan}
 use Rattle.program.proofs.streams_call.streams_given.Goals as goal
 
 pub returns-in-Err-open-clause-ending : goal.returns-in-Err-open-clause-ending
 returns-in-Err-open-clause-ending g c =
     let out = c.end_unopened in
-    let ends : Result ℕ BadValue → Option (List ℕ) → Type 0 = λ from path. IsGivenStreams from path (g.R.Read.remaining c.args.reader.now) out.result.0 (writer_contents g.W.Write.contents c.args.answers) (g.W.Write.contents out.result.1) (g.E.Write.contents c.args.errors.now) (g.E.Write.contents out.new.errors) in
-    let said : Ok c.in_default-from_given.field-0 ≡ from_in (found_of c.args.matches.now) = sym c.in_default-from_given.is ∙ (c.from_given.ensures.given ∙ ap from_given c.get_str-from.ensures) in
-    subst (λ (from : Result ℕ BadValue). ends from (first_value (found_of c.args.matches.now) (codes "with"))) said
-    (subst (ends (Ok c.in_default-from_given.field-0)) (ap Some c.in-Err-open.ensures ∙ c.in-Some.ensures) (inr out.ensures))
+    let ends : Result Plan BadValue → Option (List ℕ) → Type 0 = λ plan path. IsGivenStreams plan path (g.R.Read.remaining c.args.reader.now) out.result.0 (writer_contents g.W.Write.contents c.args.answers) (g.W.Write.contents out.result.1) (g.E.Write.contents c.args.errors.now) (g.E.Write.contents out.new.errors) in
+    let said : Ok c.in_default-plan_given.field-0 ≡ plan_in (found_of c.args.matches.now) = sym c.in_default-plan_given.is ∙ (c.plan_given.ensures.given ∙ ap plan_given c.streams_of-words.ensures) in
+    subst (λ (plan : Result Plan BadValue). ends plan (first_value (found_of c.args.matches.now) (codes "with"))) said
+    (subst (ends (Ok c.in_default-plan_given.field-0)) (ap Some c.in-Err-open.ensures ∙ c.in-Some.ensures) (inr out.ensures))
