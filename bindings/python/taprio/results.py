@@ -333,8 +333,8 @@ class ClassVerdict:
     verdict: str
     """"bounded" where each frame finds room and its wait has a bound; "within" where it has one whenever the frames come; "full" where a
     frame finds its queue full; "stuck" where a frame fits into no window, so that those behind it wait for ever; "overloaded" where no
-    frame found its queue full yet, but the backlog grows for ever; "shared" where the schedule doesn't keep the class apart; "long" where more frames had to be looked at than was
-    allowed; "late" where a moment is after the greatest."""
+    frame found its queue full yet, but the backlog grows for ever; "shared" where the schedule doesn't keep the class apart; "long" where
+    more frames had to be looked at than was allowed; "late" where a moment is after the greatest."""
     most: int | None = None
     """The greatest number of frames that ever wait at once; for "bounded" and "within", as `room`. Where a class that is "within" has more
     than there is room, some may be dropped."""
