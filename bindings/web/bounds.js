@@ -3,7 +3,7 @@ import { ticks } from "./moments.js";
 import { element } from "./svg.js";
 import { count } from "./words.js";
 
-const BOUND = /^bound (\d+) (?:class (\d) )?(?:wait (\d+) to (\d+) end (\d+) to (\d+)|(none|unknown)|dropped (\w+))(?: deadline (\d+) (met|missed|unknown))?$/;
+const BOUND = /^bound (\d+) (?:class (\d) )?(?:(wait|within) (\d+) to (\d+) end (\d+) to (\d+)|(none|unknown)|dropped (\w+))(?: deadline (\d+) (met|missed|unknown))?$/;
 
 /**
  * The streams of each schedule that a run of bounds tells of.
@@ -18,11 +18,12 @@ export function boundsIn(answers) {
     else if (line.startsWith("class ")) found.at(-1)?.classes.push(line);
     const it = BOUND.exec(line);
     if (!it) continue;
-    const [, id, kind, least, greatest, first, last, word, dropped, deadline, verdict] = it;
+    const [, id, kind, how, least, greatest, first, last, word, dropped, deadline, verdict] = it;
     const time = (text) => (text === undefined ? null : BigInt(text));
     found.at(-1)?.streams.push({
       id, class: kind === undefined ? null : Number(kind), least: time(least), greatest: time(greatest), first: time(first), last: time(last),
-      told: dropped ? `dropped: ${dropped}` : word === "none" ? "no bound" : word === "unknown" ? "not known" : "bounded",
+      told: dropped ? `dropped: ${dropped}` : word === "none" ? "no bound" : word === "unknown" ? "not known" : how === "within" ? "bounded, whenever its frames come" : "bounded",
+      within: how === "within",
       deadline: time(deadline), verdict: verdict ?? "", tone: verdict === "missed" ? "bad" : verdict === "unknown" ? "doubt" : "",
     });
   }
@@ -38,12 +39,23 @@ function classWords(line, write) {
     const full = stuck[5] ? ` The queue is full ${write(BigInt(stuck[5]))} after the schedule comes into force (stream ${stuck[6]}, frame ${stuck[7]}).` : "";
     return `Class ${stuck[1]}: frame ${stuck[4]} of stream ${stuck[3]} fits into no window, and nothing behind it starts any more.${full}`;
   }
+  const within = /^class (\d) within most (\d+) of (\d+)$/.exec(line);
+  if (within) {
+    const [, kind, most, room] = within;
+    const dropped = BigInt(most) > BigInt(room) ? ` There is room for ${room}, so some may be dropped.` : "";
+    return `Class ${kind}: at most ${count(Number(most), "frame")} ever wait${most === "1" ? "s" : ""} at once, whenever its frames come.${dropped}`;
+  }
+  const never = /^class (\d) stuck$/.exec(line);
+  if (never) return `Class ${never[1]} is stuck: no window takes its longest frame.`;
   const overloaded = /^class (\d) overloaded$/.exec(line);
   if (overloaded) return `Class ${overloaded[1]} is overloaded: more frames come than leave, and no queue has room for them in the end.`;
   const shared = /^class (\d) shared$/.exec(line);
   if (shared) return `Class ${shared[1]} shares its gate with other classes: nothing is promised.`;
   return null;
 }
+
+/** What the times of these streams count from. The nominal moment is OFFSET + n * PERIOD: without jitter the arrival. */
+export const countedFrom = (streams) => (streams.some((it) => it.within) ? "their nominal moment, or with the offset any from their arrival" : "their arrival");
 
 // The streams of these ids, behind a word; nothing where there are none.
 const listed = (word, ids) => (ids.length ? `; ${word}: stream${ids.length === 1 ? "" : "s"} ${ids.join(", ")}` : "");

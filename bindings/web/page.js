@@ -13,7 +13,7 @@ import { linesOf, readScript } from "./script.js";
 import { runVerdict } from "./frames.js";
 import { runOf, whySaid } from "./why.js";
 import { timesOf } from "./shades.js";
-import { boundsIn, boundsVerdict, drawBounds } from "./bounds.js";
+import { boundsIn, boundsVerdict, countedFrom, drawBounds } from "./bounds.js";
 import { dateOf, endOfRun, notYet, originOf, setClock, windowOf } from "./happens.js";
 import { count } from "./words.js";
 import { Inputs } from "./inputs.js";
@@ -74,10 +74,10 @@ const NAMES = { script: "Script", bounds: "Schedules", check: "Schedules", strea
 const BESIDE = { streams: "Script whose lines go among the frames", bounds: "Table of streams" };
 const HINTS = {
   script: "Lines: clock M, frame ID PRIORITY LEN [tagged], query, count CLASS, tc qdisc .. taprio ..; moments in picoseconds.",
-  bounds: "Lines: tc qdisc .. taprio ..; below: stream FIRST_ID PRIORITY LEN PERIOD OFFSET COUNT [tagged] [deadline TIME].",
+  bounds: "Lines: tc qdisc .. taprio ..; below: stream FIRST_ID PRIORITY LEN PERIOD OFFSET COUNT [tagged] [shortest LEN] [jitter TIME] [deadline TIME]; OFFSET may be any.",
   check: "Lines: tc qdisc .. taprio ..; each is answered by the classes that it keeps apart.",
   replay: "Lines of a script, without frame: the frames are the records of the capture.",
-  streams: "Lines: stream FIRST_ID PRIORITY LEN PERIOD OFFSET COUNT [tagged]; times such as 250us.",
+  streams: "Lines: stream FIRST_ID PRIORITY LEN PERIOD OFFSET COUNT [tagged] [shortest LEN] [jitter TIME]; times such as 250us, and OFFSET may be any.",
 };
 
 // Says how things stand; that a run is done is said below its picture.
@@ -297,7 +297,7 @@ function showBounds() {
   at("zoom").hidden = false;
   showControls(false, ran.bounds.length > 1, false);
   at("frame").setAttribute("aria-label", "Each stream from its earliest to its latest end, against its deadline. The table says the same.");
-  at("picture-status").textContent = "Bars: from the earliest to the latest end of a stream's frames, counted from their arrival. Line: the deadline, red where it is missed, and broken where that isn't known.";
+  at("picture-status").textContent = `Bars: from the earliest to the latest end of a stream's frames, counted from ${countedFrom(streams)}. Line: the deadline, red where it is missed, and broken where that isn't known.`;
   at("picture-status").classList.add("legend");
   return undefined;
 }

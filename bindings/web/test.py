@@ -747,6 +747,17 @@ def try_pictures(page):
     page.same("frames that are told", page.text("frames-name"), "Frames (12)")
 
 
+# Windows of class 7 in the schedule of drive.bounds, and tables of frames that come late or at any moment: what is said, and how many
+# streams have a bar.
+LATE = (
+    ("13000", "stream 1 7 60 250us 20us 1 jitter 5us deadline 300us\nstream 100 7 200 1ms any 1 shortest 60\n",
+     "Every deadline is met, for ever. Class 7: at most 2 frames ever wait at once, whenever its frames come.", 2),
+    ("13000", "stream 1 7 60 250us 20us 1 jitter 5us\n", "1 stream, no deadlines. Class 7: at most 1 frame ever waits at once, whenever its frames come.", 1),
+    ("800", "stream 1 7 100 250us any 1 deadline 1ms\n",
+     "0 of 1 deadlines are met for ever; missed: stream 1. Class 7 is stuck: no window takes its longest frame.", 0),
+)
+
+
 def try_bounds(page):
     """The two examples of bounds against the program, their table and their bars."""
     for name, verdict, unknown in (("drive.bounds", "Every deadline is met, for ever.", 0), ("drive_short.bounds", "2 of 4 deadlines are met for ever; not known: streams 200, 300.", 2)):
@@ -764,6 +775,19 @@ def try_bounds(page):
         drawn = page.saved("save-picture")
         page.same(f"saved picture of {name}", [drawn[:4], drawn.count(b'class="f"'), b"var(" in drawn], [b"<svg", 4 - unknown, False])
         page.browser.shoot(SHOTS / f"{page.browser.name}-{name}.png")
+    page.choose("drive.bounds")
+    schedule = page.do("return at('text').value")
+    for window, table, said, bars in LATE:
+        page.set("text", schedule.replace("S 80 13000", f"S 80 {window}"))
+        page.set("beside", table)
+        page.run()
+        with tempfile.NamedTemporaryFile() as file:
+            file.write(table.encode())
+            file.flush()
+            page.answers(f"bounds of {table!r}", program("bounds", file.name, text=page.do("return at('text').value").encode())[1])
+        page.same(f"verdict of {table!r}", page.text("verdict")[: len(said)], said)
+        page.same(f"bars of {table!r}", page.do("return document.querySelectorAll('#canvas rect.f').length"), bars)
+        page.same(f"what the bars of {table!r} count from", "nominal moment" in page.text("picture-status"), bars > 0)
     page.set("beside", "stream 1 7 60 250us 20us\n")
     page.run()
     page.same("a fault of the table", page.do("return !document.querySelector('#beside-editor .mark').hidden"), True)

@@ -331,27 +331,29 @@ class ClassVerdict:
 
     traffic_class: int
     verdict: str
-    """"bounded" where each frame finds room and its wait has a bound; "full" where a frame finds its queue full; "stuck" where a frame
-    fits into no window, so that those behind it wait for ever; "overloaded" where no frame found its queue full yet, but the backlog
-    grows for ever; "shared" where the schedule doesn't keep the class apart; "long" where more frames had to be looked at than was
-    allowed; "late" where a moment is after the greatest."""
+    """"bounded" where each frame finds room and its wait has a bound; "within" where it has one whenever the frames come; "full" where a
+    frame finds its queue full; "stuck" where a frame fits into no window, so that those behind it wait for ever; "overloaded" where no
+    frame found its queue full yet, but the backlog grows for ever; "shared" where the schedule doesn't keep the class apart; "long" where
+    more frames had to be looked at than was allowed; "late" where a moment is after the greatest."""
     most: int | None = None
-    """The greatest number of frames that ever wait at once; for "bounded", as the following three."""
+    """The greatest number of frames that ever wait at once; for "bounded" and "within", as `room`. Where a class that is "within" has more
+    than there is room, some may be dropped."""
     room: int | None = None
     """How many frames the queue holds."""
     frames: int | None = None
-    """After so many frames all goes on as before,"""
+    """After so many frames, for "bounded", all goes on as before,"""
     every: int | None = None
     """which takes so long, in picoseconds."""
     at: int | None = None
     """When the first frame comes that finds no room; for "full" and "stuck", as the following two. None where that is after the greatest
-    moment."""
+    moment, or where the frames may come at any moments."""
     stream: int | None = None
     """The first id of its stream."""
     frame: int | None = None
     """Which frame of its stream it is, from 1."""
     stuck_at: int | None = None
-    """When the first frame comes that never starts; for "stuck", as the following two."""
+    """When the first frame comes that never starts; for "stuck", as the following two. None where the frames may come at any moments: then
+    it is the longest frame of the class that never starts."""
     stuck_stream: int | None = None
     """The first id of its stream."""
     stuck_frame: int | None = None
@@ -367,8 +369,12 @@ class StreamBound:
     traffic_class: int | None
     """Its class; None where each frame is dropped."""
     verdict: str
-    """"bounded" where the four times are there; "none" where the class loses frames or one never leaves; "unknown" where the class is
-    shared or no answer was found; "dropped" where each frame is dropped when it comes."""
+    """"bounded" where the four times are there, and some frames reach them; "within" where they are there, and hold whenever the frames
+    come; "none" where the class loses frames or one never leaves; "unknown" where the class is shared or has too little room, or no answer
+    was found; "dropped" where each frame is dropped when it comes, or each of the shortest.
+
+    The times that are "within" count from a frame's nominal moment where its stream has an offset, so that the jitter is in them; with the
+    offset `any`, and where they are "bounded", from its arrival."""
     least_wait: int | None = None
     """The least time from a frame's arrival to its start, over all its frames."""
     greatest_wait: int | None = None
@@ -766,11 +772,11 @@ def read_check(answers: Octets) -> Check:
 
 
 _CLASS = re.compile(
-    r"class (\d+) (?:(shared|overloaded|long|late)|most (\d+) of (\d+) frames (\d+) every (\d+)"
+    r"class (\d+) (?:(shared|overloaded|long|late|stuck)|(within )?most (\d+) of (\d+)(?(3)| frames (\d+) every (\d+))"
     r"|(?=full|stuck)(?:(stuck) at (\d+) stream (\d+) frame (\d+))? ?(?:(full) at (\d+) stream (\d+) frame (\d+))?)"
 )
 _BOUND = re.compile(
-    r"bound (\d+) (?:class (\d+) (?:(none|unknown)|wait (\d+) to (\d+) end (\d+) to (\d+))|dropped (\w+))"
+    r"bound (\d+) (?:class (\d+) (?:(none|unknown)|(wait|within) (\d+) to (\d+) end (\d+) to (\d+))|dropped (\w+))"
     r"(?: deadline (\d+) (met|missed|unknown))?"
 )
 
@@ -781,19 +787,19 @@ def _number(text: str | None) -> int | None:
 
 def _verdict(found: re.Match[str]) -> ClassVerdict:
     """The verdict of a line about a class."""
-    class_, word, most, room, frames, every, stuck, stuck_at, stuck_stream, stuck_frame, full, at, stream, frame = found.groups()
+    class_, word, within, most, room, frames, every, stuck, stuck_at, stuck_stream, stuck_frame, full, at, stream, frame = found.groups()
     numbers = (most, room, frames, every, at, stream, frame, stuck_at, stuck_stream, stuck_frame)
-    return ClassVerdict(int(class_), word or stuck or full or "bounded", *map(_number, numbers))
+    return ClassVerdict(int(class_), word or stuck or full or ("within" if within else "bounded"), *map(_number, numbers))
 
 
 def _bound(found: re.Match[str]) -> StreamBound:
     """The bounds of a line about a stream."""
-    first_id, class_, word, *times, dropped, deadline, met = found.groups()
+    first_id, class_, word, kind, *times, dropped, deadline, met = found.groups()
     least_wait, greatest_wait, least_end, greatest_end = map(_number, times)
     return StreamBound(
         int(first_id),
         _number(class_),
-        word or ("dropped" if dropped else "bounded"),
+        word or ("dropped" if dropped else "within" if kind == "within" else "bounded"),
         least_wait,
         greatest_wait,
         least_end,

@@ -21,25 +21,33 @@ GREATEST = 9_223_372_036_854_775_807
 
 @dataclasses.dataclass(frozen=True)
 class Stream:
-    """Frames of one length and priority that arrive at a fixed period; times are whole nanoseconds. A value that no table of
-    streams could say raises `BadValue`."""
+    """Frames of one priority that arrive at a fixed period, or up to a jitter later; times are whole nanoseconds. A value that no table
+    of streams could say raises `BadValue`."""
 
     first_id: int
     """The id of the first frame; the following ones have the following ids."""
     priority: int
     """The priority; 0 to 15 have a class."""
     length: int
-    """Octets from the destination address to the end of the payload, without the check sequence."""
+    """Octets from the destination address to the end of the payload, without the check sequence; of the longest frame."""
     period: int
     """From one frame to the next, in nanoseconds."""
-    offset: int = 0
-    """When the first frame arrives, in nanoseconds; under `bounds` from the moment on at which the schedule comes into force."""
+    offset: int | None = 0
+    """When the first frame arrives, at the earliest, in nanoseconds; under `bounds` from the moment on at which the schedule comes into
+    force. None where that isn't known: then a run takes it as 0, and `bounds` take any moments of frames that are no closer together than
+    the period, less the jitter."""
     count: int = 1
     """How many frames arrive; under `bounds` they go on for ever."""
     tagged: bool = False
     """Whether the frames have a customer VLAN tag."""
     deadline: int | None = None
-    """How long after its arrival each frame has to have left the wire, in nanoseconds, for `bounds`; a run takes no notice of it."""
+    """How long after its nominal moment, or with the offset None after its arrival, each frame has to have left the wire, in nanoseconds,
+    for `bounds`; a run takes no notice of it."""
+    shortest: int | None = None
+    """Octets of the shortest frame, at most `length`, for `bounds`; None where all frames have one length. Those of a run have `length`."""
+    jitter: int | None = None
+    """By how much a frame may arrive later than its nominal moment, in nanoseconds, for `bounds`; None where none does. In a run each
+    arrives at the earliest."""
 
     def __post_init__(self) -> None:
         for name, most in (
@@ -50,9 +58,11 @@ class Stream:
             ("offset", GREATEST),
             ("count", 2**32 - 1),
             ("deadline", GREATEST),
+            ("shortest", 2**32 - 1),
+            ("jitter", GREATEST),
         ):
             value = getattr(self, name)
-            if name == "deadline" and value is None:
+            if name in ("offset", "deadline", "shortest", "jitter") and value is None:
                 continue
             given = index(value)
             if given is None or not 0 <= given <= most:
@@ -60,7 +70,12 @@ class Stream:
             object.__setattr__(self, name, given)
         if self.count and self.first_id + self.count - 1 > 2**64 - 1:
             raise BadValue("bad value of count: the last id is over 2^64 - 1", "count")
-        if self.count and self.offset + (self.count - 1) * self.period > GREATEST:
+        if self.shortest is not None and self.shortest > self.length:
+            raise BadValue("bad value of shortest: the shortest frame is longer than the longest", "shortest")
+        latest = (self.offset or 0) + (self.jitter or 0)
+        if latest > GREATEST:
+            raise BadValue(f"bad value of jitter: the first frame may arrive after {GREATEST} ns", "jitter")
+        if self.count and latest + (self.count - 1) * self.period > GREATEST:
             raise BadValue(f"bad value of count: the last frame arrives after {GREATEST} ns", "count")
 
     @property
@@ -70,9 +85,12 @@ class Stream:
 
     def line(self) -> str:
         """Its line of a table of streams, without a newline."""
-        words = f"stream {self.first_id} {self.priority} {self.length} {self.period}ns {self.offset}ns {self.count}"
+        offset = "any" if self.offset is None else f"{self.offset}ns"
+        words = f"stream {self.first_id} {self.priority} {self.length} {self.period}ns {offset} {self.count}"
+        shortest = "" if self.shortest is None else f" shortest {self.shortest}"
+        jitter = "" if self.jitter is None else f" jitter {self.jitter}ns"
         deadline = "" if self.deadline is None else f" deadline {self.deadline}ns"
-        return words + (" tagged" if self.tagged else "") + deadline
+        return words + (" tagged" if self.tagged else "") + shortest + jitter + deadline
 
 
 def table(streams: Iterable[Stream]) -> str:
@@ -150,7 +168,8 @@ def bounds(
     port: Chosen = None,
 ) -> Bounds:
     """How long the frames of periodic streams wait under a schedule, for ever: the least and the greatest wait of each stream of a class
-    that the schedule keeps apart, whatever the other classes send, and whether its deadline is met.
+    that the schedule keeps apart, whatever the other classes send, and whether its deadline is met. Where a stream of a class has a jitter,
+    several lengths or the offset None, the bounds of the class hold whenever its frames come.
 
     `schedule` may also be `tc` lines, each of which is judged by itself, and `streams` a table. The offsets of the streams count from the
     moment at which the schedule comes into force, and each stream goes on for ever: its `count` is no matter, and a period of 0 raises

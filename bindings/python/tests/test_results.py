@@ -348,6 +348,15 @@ apart none
 class 4 long
 class 5 late
 class 6 overloaded
+apart 5 6 7
+class 5 within most 3 of 2
+class 6 stuck
+class 7 within most 2 of 128
+bound 1 class 7 within 0 to 245 end 6 to 246 deadline 300 met
+bound 2 class 7 within 0 to 245 end 6 to 246 deadline 100 unknown
+bound 3 class 7 within 0 to 240 end 17 to 242
+bound 4 class 5 unknown
+bound 5 class 6 none deadline 10 missed
 """
 
     def test_kinds(self):
@@ -378,9 +387,22 @@ class 6 overloaded
                 results.Bounded(None, fault=results.Refused("IntervalTooShort", 0)),
                 results.Bounded(None, fault=results.TcFault("MissingWord", "map")),
                 results.Bounded((), (results.ClassVerdict(4, "long"), results.ClassVerdict(5, "late"), results.ClassVerdict(6, "overloaded"))),
+                results.Bounded(
+                    (5, 6, 7),
+                    (results.ClassVerdict(5, "within", 3, 2), results.ClassVerdict(6, "stuck"), results.ClassVerdict(7, "within", 2, 128)),
+                    (
+                        results.StreamBound(1, 7, "within", 0, 245, 6, 246, None, 300, True),
+                        results.StreamBound(2, 7, "within", 0, 245, 6, 246, None, 100),
+                        results.StreamBound(3, 7, "within", 0, 240, 17, 242),
+                        results.StreamBound(4, 5, "unknown"),
+                        results.StreamBound(5, 6, "none", deadline=10, met=False),
+                    ),
+                ),
             ),
         )
-        self.assertEqual([row["schedule"] for row in found.class_rows()], [0, 0, 0, 0, 3, 3, 3])
+        self.assertEqual([row["schedule"] for row in found.class_rows()], [0, 0, 0, 0, 3, 3, 3, 4, 4, 4])
+        within = found.rows()[6]
+        self.assertEqual((within["schedule"], within["verdict"], within["greatest_end"], within["met"]), (4, "within", 246, True))
         self.assertEqual(
             found.rows()[1],
             {
@@ -404,6 +426,9 @@ class 6 overloaded
             ("", False),
             ("apart 1\nbound 1 class 1 none\n", True),
             ("apart 1\nbound 1 class 1 wait 0 to 0 end 5 to 5 deadline 5 met\n", True),
+            ("apart 1\nbound 1 class 1 within 0 to 2 end 3 to 5 deadline 5 met\n", True),
+            ("apart 1\nclass 1 within most 3 of 2\nbound 1 class 1 unknown\n", True),
+            ("apart 1\nbound 1 class 1 within 0 to 2 end 3 to 5 deadline 4 unknown\n", False),
             ("apart 1\nbound 1 class 1 none deadline 5 missed\n", False),
             ("apart 1\nbound 1 class 1 unknown deadline 5 unknown\n", False),
             ("refused MapMissing\n", False),
@@ -421,7 +446,12 @@ class 6 overloaded
             (b"refused MapMissing\nbound 1 class 1 none\n", 2),
             (b"apart 1\nbound 1 class 1 none\nclass 1 shared\n", 3),
             (b"apart 1\nclass 1 most 1 of 2\n", 2),
+            (b"apart 1\nclass 1 most 1 of 2 every 3\n", 2),
+            (b"apart 1\nclass 1 within most 1\n", 2),
+            (b"apart 1\nclass 1 within most 1 of 2 frames 1 every 5\n", 2),
+            (b"apart 1\nclass 1 full\n", 2),
             (b"apart 1\nbound 1 class 1 wait 1 to 2\n", 2),
+            (b"apart 1\nbound 1 class 1 within 1 to 2\n", 2),
             (b"apart 1\nbound 1 class 1 none deadline 5\n", 2),
             (b"apart 1\nbound 1 dropped\n", 2),
         ):
@@ -453,6 +483,24 @@ class 6 overloaded
             taprio.bounds(LOOP, [dataclasses.replace(control, period=0)], port=support.BOUNDS)
         with self.assertRaises(TypeError):
             taprio.bounds(None, [control], port=support.BOUNDS)
+
+    @support.wants_program
+    def test_any_moments(self):
+        """Streams with a jitter, several lengths, and the offset None; a class with too little room; and one whose frame fits no window."""
+        late = dataclasses.replace(CONTROL, offset=60_000, jitter=5_000, shortest=60, deadline=250_000)
+        schedule = taprio.bounds(LOOP, [late], port=support.PROGRAM).schedules[0]
+        self.assertEqual(schedule.classes, (results.ClassVerdict(1, "within", 1, 128),))
+        self.assertEqual(
+            schedule.streams, (results.StreamBound(1, 1, "within", 190_000_000, 190_000_000, 190_672_000, 190_704_000, None, 250_000_000, True),)
+        )
+        self.assertEqual(taprio.bounds(LOOP, [dataclasses.replace(late, deadline=190_703)], port=support.PROGRAM).finding, "stream 1: deadline unknown")
+        free = taprio.Stream(9, 6, 64, 1_000_000, None)
+        schedule = taprio.bounds(LOOP, [late, free], room=1, port=support.PROGRAM).schedules[0]
+        self.assertEqual(schedule.classes, (results.ClassVerdict(1, "within", 2, 1),))
+        self.assertEqual([(it.verdict, it.met) for it in schedule.streams], [("unknown", None)] * 2)
+        short = taprio.Schedule([(0x02, 800), (0x01, 249_200)], map=LOOP.map)
+        stuck = taprio.bounds(short, [dataclasses.replace(free, length=100)], port=support.PROGRAM)
+        self.assertEqual((stuck.schedules[0].classes, stuck.finding), ((results.ClassVerdict(1, "stuck"),), "class 1: stuck"))
 
     @support.wants_bounds
     def test_random_bounds(self):
@@ -487,6 +535,9 @@ class 6 overloaded
         for table, schedules, status in (
             (MET, LOOP.tc(), 0),
             (MET.replace("deadline 250us", "deadline 1us"), LOOP.tc(), 1),
+            (MET.replace(" 60us 1 ", " 60us 1 jitter 5us "), LOOP.tc(), 0),
+            (MET.replace(" 60us 1 ", " any 1 jitter 5us "), LOOP.tc(), 0),
+            (MET.replace(" 60us 1 deadline 250us", " any 1 deadline 200us"), LOOP.tc(), 1),
             (MET, "tc qdisc del dev eth0 root", 1),
             (MET, f"{LOOP.tc()}\ntc qdisc replace", 1),
             (MET, "# nothing", 1),
@@ -517,6 +568,9 @@ class 6 overloaded
             (class_4 + b"bound 3 class 4 none deadline 5 missed\n", "stream 3: deadline missed"),
             (class_4 + b"bound 3 dropped Runt\n", "stream 3: dropped"),
             (b"apart 4\nclass 4 stuck at 1 stream 3 frame 4\nbound 3 class 4 none\n", "class 4: stuck"),
+            (b"apart 4\nclass 4 stuck\nbound 3 class 4 none\n", "class 4: stuck"),
+            (b"apart 4\nclass 4 within most 3 of 2\nbound 3 class 4 unknown\n", None),
+            (b"apart 4\nclass 4 within most 1 of 2\nbound 3 class 4 within 0 to 2 end 3 to 5 deadline 4 missed\n", "stream 3: deadline missed"),
         ):
             with self.subTest(answers):
                 found = taprio.read_bounds(answers)
@@ -533,6 +587,10 @@ class Streams(unittest.TestCase):
         self.assertEqual(CONTROL.ids, range(1, 5))
         self.assertEqual(taprio.Stream(1, 6, 64, 5, deadline=7).line(), "stream 1 6 64 5ns 0ns 1 deadline 7ns")
         self.assertEqual(taprio.Stream(1, 6, 64, 5, tagged=True, deadline=0).line(), "stream 1 6 64 5ns 0ns 1 tagged deadline 0ns")
+        self.assertEqual(taprio.Stream(1, 6, 64, 5, None).line(), "stream 1 6 64 5ns any 1")
+        late = taprio.Stream(1, 6, 64, 5, tagged=True, deadline=7, shortest=60, jitter=4)
+        self.assertEqual(late.line(), "stream 1 6 64 5ns 0ns 1 tagged shortest 60 jitter 4ns deadline 7ns")
+        self.assertEqual(taprio.Stream(1, 6, 64, 5, shortest=0, jitter=0).line(), "stream 1 6 64 5ns 0ns 1 shortest 0 jitter 0ns")
 
     def test_faults(self):
         for values, option in (
@@ -544,6 +602,13 @@ class Streams(unittest.TestCase):
             ({"count": True}, "count"),
             ({"deadline": 0.5}, "deadline"),
             ({"deadline": -1}, "deadline"),
+            ({"offset": "any"}, "offset"),
+            ({"shortest": 0.5}, "shortest"),
+            ({"shortest": 61}, "shortest"),
+            ({"jitter": "5us"}, "jitter"),
+            ({"jitter": 2**63}, "jitter"),
+            ({"offset": 1, "jitter": 2**63 - 1, "count": 0}, "jitter"),
+            ({"offset": None, "jitter": 2**63 - 1, "count": 2}, "count"),
             ({"first_id": 2**64 - 1, "count": 2}, "count"),
             ({"period": 2**62, "count": 3}, "count"),
         ):
@@ -561,6 +626,15 @@ class Streams(unittest.TestCase):
             taprio.Stream(0, 0, 0, 0, 0, 0, True, 2**63 - 1),
         ):
             taprio.backend().streams(taprio.table([stream]))
+
+    @support.wants_program
+    def test_each_late_table_is_read(self):
+        """So are those with a jitter, a shortest frame and the offset None."""
+        for stream in (
+            taprio.Stream(0, 0, 2**32 - 1, 0, None, 1, True, 2**63 - 1, 2**32 - 1, 2**63 - 1),
+            taprio.Stream(0, 0, 0, 1, 2**62, 0, shortest=0, jitter=2**62 - 1),
+        ):
+            taprio.backend(support.PROGRAM).streams(taprio.table([stream]))
 
     @support.wants_port
     def test_a_run(self):
