@@ -24,7 +24,7 @@ use Rattle.script.specs.Given.{GivenWords}
 use Rattle.script.specs.Setup.{Setup}
 use Rattle.job.specs.declared.report.Ended.{Ended}
 use Rattle.script.specs.declared.settings.BadValue.{BadValue}
-use Rattle.traffic.specs.StreamsEnd.{GivenWords, IsStreamsEnding, plan_given}
+use Rattle.traffic.specs.StreamsEnd.{GivenWords as StreamsGiven, IsStreamsEnding, plan_given}
 use Rattle.traffic.specs.declared.plan.Plan.{Plan}
 use Rattle.stream_bounds.specs.BoundsEnd.{IsBoundsEnding, IsBoundsRefusal, bounds_given}
 use Rattle.stream_bounds.specs.declared.settings.BoundsSettings.{BoundsSettings}
@@ -74,7 +74,7 @@ abbrev pub draws_in : Found → Result DrawOptions BadValue
 draws_in found = options_of (draw_words_in found)
 
 -- what the words that are given to the options of `streams` say
-abbrev pub streams_in : Found → GivenWords
+abbrev pub streams_in : Found → StreamsGiven
 streams_in found = record { from = first_value found (codes "from"); late = flag_in (codes "late") found }
 
 -- how the frames of a table come by them

@@ -12,6 +12,6 @@ returns c = λ read is.
     let script = c.args.script.now in
     let drawn : ForSomeBands (λ bands. WhereDrawn c.draw-run.result (BandsOf read s o script bands) × IsDrawn c.draw-run.result (Some []) (Some written) (picture_of read s o script bands)) = search rules in
     map_bands (λ bands d. (
-      theirs c.draw-run.result written (picture_of read s o script bands) (BandsOf read s o script bands) _ _ _ d.0 d.1 c.end_in_memory.ensures,
-      c.end_in_memory.ensures (picture_of read s o script bands) (runs_of c.draw-run.result (Some []) (Some written) (picture_of read s o script bands) d.1),
+      theirs c.draw-run.result written (picture_of read s o script bands) (BandsOf read s o script bands) _ _ _ d.0 d.1 c.end_in_memory.ensures.told,
+      c.end_in_memory.ensures.told (picture_of read s o script bands) (runs_of c.draw-run.result (Some []) (Some written) (picture_of read s o script bands) d.1),
     )) drawn
