@@ -244,7 +244,10 @@ fn answer_with(
             let room = settings.port.room();
             Ok(within_room(alloc, room, told.most, reached, told.bounds))
         }
-        Err(WindowUnbound::Overloaded) => Ok(unbounded(alloc, Verdict::Overloaded { alone: false })),
+        Err(WindowUnbound::Overloaded) => Ok(unbounded(
+            alloc,
+            Verdict::Overloaded { alone: false },
+        )),
         Err(WindowUnbound::Stuck) => Ok(unbounded(alloc, Verdict::Unfit)),
         Err(WindowUnbound::Long) => any_answer(alloc, settings, change, schedule, streams, class),
         Err(WindowUnbound::Late) => any_answer(alloc, settings, change, schedule, streams, class),

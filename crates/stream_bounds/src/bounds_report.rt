@@ -58,7 +58,9 @@ fn put_answers<W: Write>(
     ensures lines { Writes result (W.contents writer.old) (W.contents writer.new)
         (change_lines None settings.now change.now streams.now answers.old) }
     ensures answered { IfOk result (λ told. told ≡ record {
-        finding = accepted_finding settings.now change.now streams.now answers.old; judged = true }) }
+      finding = accepted_finding settings.now change.now streams.now answers.old;
+      judged = true;
+    }) }
 {
     let count = class_count(map_after(settings.map, change.map));
     put_apart(writer, &classes_apart(schedule, count))?;

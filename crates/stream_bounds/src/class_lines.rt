@@ -126,12 +126,7 @@ fn put_bounded<W: Write>(
 }
 
 /// Writes the line of a class whose frames wait within bounds, whenever they come.
-fn put_within<W: Write>(
-    writer: &mut W,
-    class: u8,
-    room: u32,
-    most: u64,
-) -> Result<(), WriteFault>
+fn put_within<W: Write>(writer: &mut W, class: u8, room: u32, most: u64) -> Result<(), WriteFault>
     ensures { Writes result (W.contents writer.old) (W.contents writer.new) (within_line class room most) }
 {
     put_parts(
