@@ -13,6 +13,8 @@ struct Role {
     most: u128,
     /// Whether it is a time with its unit.
     is_time: bool,
+    /// A word that may stand in the place of a number; none where that is empty.
+    or_word: &'static [u8],
     /// What it is.
     text: &'static [u8],
 }
@@ -20,49 +22,71 @@ struct Role {
 const ID: Role = Role {
     most: 0xffff_ffff_ffff_ffff,
     is_time: false,
+    or_word: b"",
     text: b"ID is a whole number from 0 to 18446744073709551615",
 };
 
 const PRIORITY: Role = Role {
     most: 255,
     is_time: false,
+    or_word: b"",
     text: b"PRIORITY is a whole number from 0 to 255",
 };
 
 const LEN: Role = Role {
     most: 0xffff_ffff,
     is_time: false,
+    or_word: b"",
     text: b"LEN is a whole number of octets from 0 to 4294967295",
 };
 
 const COUNT: Role = Role {
     most: 0xffff_ffff,
     is_time: false,
+    or_word: b"",
     text: b"COUNT is a whole number from 0 to 4294967295",
 };
 
 const CLASS: Role = Role {
     most: 7,
     is_time: false,
+    or_word: b"",
     text: b"CLASS is a whole number from 0 to 7",
 };
 
 const MOMENT: Role = Role {
     most: 0xffff_ffff_ffff_ffff_ffff_ffff_ffff_ffff,
     is_time: false,
+    or_word: b"",
     text: b"MOMENT is a whole number of picoseconds, without a unit",
 };
 
 const PERIOD: Role = Role {
     most: MAX_MOMENT,
     is_time: true,
+    or_word: b"",
     text: b"PERIOD is a number with its unit: ps, ns, us, ms or s, such as 250us",
 };
 
 const OFFSET: Role = Role {
     most: MAX_MOMENT,
     is_time: true,
-    text: b"OFFSET is a number with its unit: ps, ns, us, ms or s, such as 12.5us",
+    or_word: b"any",
+    text: b"OFFSET is any, or a number with its unit: ps, ns, us, ms or s, such as 12.5us",
+};
+
+const SHORTEST: Role = Role {
+    most: 0xffff_ffff,
+    is_time: false,
+    or_word: b"",
+    text: b"the shortest LEN is a whole number of octets, at most LEN",
+};
+
+const TIME: Role = Role {
+    most: MAX_MOMENT,
+    is_time: true,
+    or_word: b"",
+    text: b"TIME is a number with its unit: ps, ns, us, ms or s, such as 5us",
 };
 
 /// The words of a line after its first.
@@ -98,7 +122,7 @@ fn form_of(kind: &[u8]) -> &'static [u8] {
     match kind {
         b"frame" => b"a frame line is: frame ID PRIORITY LEN [tagged]",
         b"stream" =>
-            b"a stream line is: stream ID PRIORITY LEN PERIOD OFFSET COUNT [tagged] [deadline TIME]",
+            b"a stream line is: stream ID PRIORITY LEN PERIOD OFFSET COUNT [tagged] [shortest LEN] [jitter TIME] [deadline TIME]",
         b"clock" => b"a clock line is: clock MOMENT",
         b"count" => b"a count line is: count CLASS",
         _ => b"a query line is: query",
@@ -107,11 +131,41 @@ fn form_of(kind: &[u8]) -> &'static [u8] {
 
 /// Whether a word is within the limits of its role.
 fn fits(role: &Role, word: &[u8]) -> bool {
-    if role.is_time {
+    if word == role.or_word {
+        true
+    } else if role.is_time {
         time(word, role.most).is_some()
     } else {
         number(word, role.most).is_some()
     }
+}
+
+/// A part that may stand at the end of a stream's line: a bit of its own, and its value.
+fn part_of(name: &[u8]) -> Option<(u8, &'static Role)> {
+    match name {
+        b"shortest" => Some((1, &SHORTEST)),
+        b"jitter" => Some((2, &TIME)),
+        b"deadline" => Some((4, &TIME)),
+        _ => None,
+    }
+}
+
+/// The first value of the parts of a stream's line, from this word on, that doesn't fit its role; and what the role is.
+fn first_bad_part<'a>(
+    line: &'a [u8],
+    mut words: Words<'a>,
+    first: &'a [u8],
+) -> Option<(Span, &'static [u8])> {
+    let mut name = first;
+    for _ in 0..3u8 {
+        let (_, role) = part_of(name)?;
+        let value = words.next_word()?;
+        if !fits(role, value) {
+            return Some((span_of(line, &words, value), role.text));
+        }
+        name = words.next_word()?;
+    }
+    None
 }
 
 /// The first word of a line that doesn't fit its role, and what the role is.
@@ -124,7 +178,12 @@ fn first_bad(line: &[u8]) -> Option<(Span, &'static [u8])> {
             return Some((span_of(line, &words, word), role.text));
         }
     }
-    None
+    let word = words.next_word()?;
+    if word != b"tagged".as_slice() {
+        return first_bad_part(line, words, word);
+    }
+    let word = words.next_word()?;
+    first_bad_part(line, words, word)
 }
 
 /// What helps with a line that has a bad number.
@@ -132,9 +191,27 @@ pub(crate) fn bad_number(line: &[u8]) -> Hint {
     match first_bad(line) {
         Some((span, text)) => Hint::marked(Some(span), text),
         None => Hint::plain(
-            b"a PERIOD is more than 0, a deadline's TIME has its unit, and ID and COUNT are at most 2^64 together",
+            b"a PERIOD is more than 0, the shortest LEN at most LEN, and ID and COUNT at most 2^64 together",
         ),
     }
+}
+
+/// The first word of the parts of a stream's line, from this word on, that may not stand there.
+fn first_odd_part<'a>(line: &'a [u8], mut words: Words<'a>, first: &'a [u8]) -> Option<Span> {
+    let mut name = first;
+    let mut seen = 0;
+    for _ in 0..3u8 {
+        let Some((bit, _)) = part_of(name) else {
+            return Some(span_of(line, &words, name));
+        };
+        if seen & bit != 0 {
+            return Some(span_of(line, &words, name));
+        }
+        seen |= bit;
+        words.next_word()?;
+        name = words.next_word()?;
+    }
+    Some(span_of(line, &words, name))
 }
 
 /// The first word of a line that it may not have, where it has too many words.
@@ -144,12 +221,15 @@ fn first_left_over(line: &[u8]) -> Option<Span> {
     for _ in roles_of(kind) {
         words.next_word()?;
     }
-    let word = words.next_word()?;
-    if word != b"tagged".as_slice() {
-        return Some(span_of(line, &words, word));
+    let mut word = words.next_word()?;
+    if word == b"tagged".as_slice() {
+        word = words.next_word()?;
     }
-    let word = words.next_word()?;
-    Some(span_of(line, &words, word))
+    if kind == b"stream".as_slice() {
+        first_odd_part(line, words, word)
+    } else {
+        Some(span_of(line, &words, word))
+    }
 }
 
 /// What helps with a line that has too few or too many words.
