@@ -102,19 +102,22 @@ function rowOfStream(it, top, x, width, write) {
   return { row, text, beside: { from, to, deadline } };
 }
 
+/** The latest time that a picture of streams has: an end or a deadline. */
+export const latestOf = (streams) => streams.slice(0, DRAWN).reduce((most, it) => [it.last, it.deadline].reduce((a, b) => (b !== null && b > a ? b : a), most), 1n);
+
 /**
  * A picture of streams: from the least to the greatest time to each frame's end, against its deadline.
  *
  * @param {object[]} streams
  * @param {number} width
  * @param {(time: bigint) => string} write
+ * @param {bigint} most the time at its right end
  * @returns {{svg: SVGElement, place: () => void}} the picture, and what places its labels once it is shown: only then they have a width
  */
-export function drawBounds(streams, width, write) {
+export function drawBounds(streams, width, write, most = latestOf(streams)) {
   const drawn = streams.slice(0, DRAWN);
   const height = HEAD + drawn.length * ROW_STEP + 12;
   const svg = element("svg", { width, height, viewBox: `0 0 ${width} ${height}`, role: "img", class: "bounds" });
-  const most = drawn.reduce((most, it) => [it.last, it.deadline].reduce((a, b) => (b !== null && b > a ? b : a), most), 1n);
   const x = (time) => BEGIN + (Number(time) / Number(most)) * (width - BEGIN - END);
   for (const { at, text } of ticks({ from: 0n, to: most }, 0n, Math.max(2, Math.floor(width / 130)))) {
     svg.append(element("path", { class: "g", d: `M${x(at)} ${HEAD - 6}V${height - 12}` }), element("text", { class: "m", x: x(at), y: 14 }, text));

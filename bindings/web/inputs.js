@@ -27,7 +27,7 @@ function openDatabase() {
   return answerOf(request);
 }
 
-const sizeOfState = ({ text, beside, octets }) => text.length + (beside ?? "").length + (octets ?? "").length;
+const sizeOfState = ({ text, beside, other, octets }) => [text, beside, other, octets].reduce((sum, it) => sum + (it ?? "").length, 0);
 const newestFirst = (list) => list.sort((a, b) => b.date - a.date);
 
 /** The first words of a text, as the name of an input. */

@@ -33,7 +33,7 @@ async function unpack(text) {
   }
 }
 
-const PACKED = ["text", "beside"];
+const PACKED = ["text", "beside", "other"];
 
 /**
  * The fragment of a link.

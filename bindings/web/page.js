@@ -13,7 +13,8 @@ import { linesOf, readScript } from "./script.js";
 import { runVerdict } from "./frames.js";
 import { runOf, whySaid } from "./why.js";
 import { timesOf } from "./shades.js";
-import { boundsIn, boundsVerdict, countedFrom, drawBounds } from "./bounds.js";
+import { boundsIn, boundsVerdict, countedFrom, drawBounds, latestOf } from "./bounds.js";
+import { commandsIn, differencesByClass, differencesByStream, windowOfBoth, withSchedule } from "./compare.js";
 import { dateOf, endOfRun, notYet, originOf, setClock, windowOf } from "./happens.js";
 import { count } from "./words.js";
 import { Inputs } from "./inputs.js";
@@ -48,6 +49,8 @@ const encoded = (text) => new TextEncoder().encode(text);
 const runner = new Runner(at("page-worker").textContent, octetsIn(at("page-wasm").textContent));
 const editor = new Editor(at("editor"));
 const beside = new Editor(at("beside-editor"));
+const other = new Editor(at("other-editor")); // the schedule that is compared with that of the input
+const editors = [editor, beside, other];
 
 const inputs = new Inputs();
 const past = []; // what stood in the page before another text took its place, for Ctrl+Z
@@ -70,6 +73,7 @@ let working = 0; // the number of the run of all that goes on
 let drawing = false; // whether a picture is drawn for itself
 let again = false; // whether it is to be drawn once more
 
+const COMPARED = ["script", "bounds", "streams", "replay"]; // the jobs of which another schedule is run, too
 const NAMES = { script: "Script", bounds: "Schedules", check: "Schedules", streams: "Table of streams", replay: "Script of the replay" };
 const BESIDE = { streams: "Script whose lines go among the frames", bounds: "Table of streams" };
 const HINTS = {
@@ -93,6 +97,8 @@ const job = () => at("form").elements.job.value;
 const origin = () => BigInt(at("origin").value || 0);
 const writeTime = (time) => (at("ps").checked ? String(time) : time === 0n ? "0" : writeMoment(time));
 const writeAt = (moment) => (at("ps").checked ? String(moment) : writeTime(moment - origin()));
+const writeSize = (value) => (typeof value === "bigint" ? writeTime(value) : String(value));
+const writeChange = (value) => (typeof value === "string" ? value : value > 0 ? `+${writeSize(value)}` : value < 0 ? `\u2212${writeSize(-value)}` : "0");
 
 const CLASS_COLUMNS = [
   ["class", "Class", "number"], ["queued", "Queued", "number"], ["sent", "Sent", "number"], ["dropped", "Dropped", "number"], ["left", "Waiting at the end", "number"],
@@ -110,8 +116,9 @@ const FRAME_COLUMNS = [
   ["id", "Frame", "number"], ["class", "Class", "number"], ["length", "Octets", "number"], ["arrival", "Arrives", "moment"], ["start", "Starts", "moment"],
   ["end", "Ends", "moment"], ["wait", "Waits", "time"], ["fate", "Fate", "text"],
 ];
+const DIFFERENCE_COLUMNS = [["of", "Of", "text"], ["what", "What", "text"], ["one", "Input's", "measure"], ["other", "Other", "measure"], ["difference", "Difference", "change"]];
 const columns = (list) => list.map(([name, title, kind]) => ({ name, title, kind }));
-const HOW = { time: writeTime, moment: writeAt };
+const HOW = { time: writeTime, moment: writeAt, measure: writeTime, change: writeChange };
 const tables = {
   script: new Table(at("classes"), columns(CLASS_COLUMNS), HOW),
   replay: new Table(at("classes"), columns(CLASS_COLUMNS), HOW),
@@ -119,13 +126,20 @@ const tables = {
   check: new Table(at("classes"), columns(WINDOW_COLUMNS), HOW),
   bounds: new Table(at("classes"), columns(BOUND_COLUMNS), HOW),
 };
+const differenceTable = new Table(at("differences"), columns(DIFFERENCE_COLUMNS), HOW);
 const frameTable = new Table(at("frames-table"), columns(FRAME_COLUMNS), { ...HOW, choose: (frame) => chooseFrame(frame, true) });
 
 // 2. The picture
 
+const canvases = [at("canvas"), at("other-canvas")];
+const moves = { want: (time) => setTime(time), whole: () => zoom("whole") };
 const viewer = new Viewer(
-  { box: at("frame"), canvas: at("canvas"), band: at("band"), tip: at("tip") },
-  { want: (time) => setTime(time), whole: () => zoom("whole"), choose: (frame) => chooseFrame(frame, false), tell: tipOf },
+  { box: at("frame"), canvas: at("canvas"), canvases, band: at("band"), tip: at("tip") },
+  { ...moves, choose: (frame) => chooseFrame(frame, false), tell: (found) => tipOf(ran, found) },
+);
+const otherViewer = new Viewer(
+  { box: at("other-frame"), canvas: at("other-canvas"), canvases, band: at("other-band"), tip: at("other-tip") },
+  { ...moves, choose: (frame) => chooseOther(frame), tell: (found) => tipOf(ran.other, found) },
 );
 
 function line(text, title) {
@@ -135,36 +149,43 @@ function line(text, title) {
   return made;
 }
 
-// What is said of what lies at a place of the picture.
-function tipOf({ frame, band }) {
+// What is said of what lies at a place of the picture of a run.
+function tipOf(run, { frame, band }) {
   if (band) return [line(`Class ${band.class} is open`), line(`about ${writeAt(band.from)} to ${writeAt(band.to)}`)];
   const head = document.createElement("strong");
   head.textContent = `Frame ${frame.id}${frame.class === null ? "" : `, class ${frame.class}`}`;
   const lines = [head, line(`${frame.length} octets, arrives ${writeAt(frame.arrival)}`)];
   if (frame.start !== null) lines.push(line(`starts ${writeAt(frame.start)}, ends ${writeAt(frame.end)}`));
   else if (frame.fate !== "left") lines.push(line(`dropped: ${frame.fate}`));
-  const why = whyOf(frame, REASONS_IN_TIP);
+  const why = whyOf(run, frame, REASONS_IN_TIP);
   if (why) lines.push(line(why));
   else if (frame.start !== null) lines.push(line(`waits ${writeTime(frame.wait)}`));
   return lines;
 }
 
-// The frames of the run that is shown, as they are looked through for their waits.
-function waitsNow() {
-  ran.waits ??= runOf(ran.frames, ran.history, ran.port.rate, ran.until !== null && ran.until > ran.last ? ran.until : ran.last, ran.wire);
-  return ran.waits;
+// The frames of a run, as they are looked through for their waits.
+function waitsOf(run) {
+  run.waits ??= runOf(run.frames, run.history, run.port.rate, run.until !== null && run.until > run.last ? run.until : run.last, run.wire);
+  return run.waits;
 }
 
-// Why a frame of the run that is shown waits, in a sentence.
-function whyOf(frame, most) {
-  if (!ran.frames.includes(frame)) return "";
-  return whySaid(waitsNow(), frame, { time: writeTime, at: writeAt }, most);
+// Why a frame of a run waits, in a sentence.
+function whyOf(run, frame, most) {
+  if (!run.frames.includes(frame)) return "";
+  return whySaid(waitsOf(run), frame, { time: writeTime, at: writeAt }, most);
 }
 
-// Tells below the picture why the frame that is chosen waits.
+const waitSaid = (run, frame) => whyOf(run, frame, REASONS_TOLD) || (frame.start === null ? "" : `Frame ${frame.id} does not wait.`);
+
+// The same frame under the other schedule, or null.
+const otherOf = (frame) => ran.other?.frames[ran.frames.indexOf(frame)] ?? null;
+
+// Tells below the picture why the frame that is chosen waits, and why it does under the other schedule.
 function tellWhy(frame) {
   const isThere = frame !== null && ran.frames.includes(frame);
-  at("why").textContent = isThere ? whyOf(frame, REASONS_TOLD) || (frame.start === null ? "" : `Frame ${frame.id} does not wait.`) : "";
+  const its = isThere ? otherOf(frame) : null;
+  const said = its && waitSaid(ran.other, its);
+  at("why").textContent = isThere ? waitSaid(ran, frame) + (said ? ` Under the other schedule: ${said}` : "") : "";
 }
 
 // A frame is chosen in the table or in the picture: it is shown in both, and its line of the answers.
@@ -172,7 +193,16 @@ function chooseFrame(frame, inPicture) {
   if (inPicture) viewer.find(frame);
   tellWhy(frame);
   frameTable.mark(frame);
+  otherViewer.ring(otherOf(frame));
   markAnswer(frame.told);
+}
+
+// A frame is chosen in the picture of the other schedule: it is shown in all that tells of it.
+function chooseOther(frame) {
+  const its = ran.frames[ran.other.frames.indexOf(frame)];
+  if (!its) return;
+  viewer.ring(its);
+  chooseFrame(its, false);
 }
 
 function markAnswer(number) {
@@ -200,11 +230,13 @@ function findAnswered(event) {
     viewer.find(frame);
     tellWhy(frame);
     frameTable.mark(frame);
+    otherViewer.ring(otherOf(frame));
   }
 }
 
 function hidePicture(why) {
   viewer.show(null);
+  hideOther();
   tellWhy(null);
   at("zoom").hidden = true;
   at("save-picture").hidden = true;
@@ -252,17 +284,26 @@ function showPicture({ output }, values) {
   sayPicture("");
 }
 
-// Puts what was drawn into the page, with its marks of time.
+// The picture of a run, with its marks of time; null where none was drawn.
+function pictureOf({ drawn, changes, frames, times, kinds }) {
+  return drawn?.shown ? new Picture(drawn.text, drawn.shown, { origin: origin(), changes, frames, times, kinds }) : null;
+}
+
+// Puts what was drawn into the page: of two pictures the lower one has the legend.
 function layPicture() {
-  const { text, shown } = ran.drawn ?? {};
-  if (!shown) return;
+  const picture = pictureOf(ran);
+  if (!picture) return;
   tellWhy(viewer.frame);
-  const picture = new Picture(text, shown, { origin: origin(), changes: ran.changes, frames: ran.frames, times: ran.times, kinds: ran.kinds });
+  const below = ran.other && pictureOf(ran.other);
   at("frame").hidden = false;
-  picture.layLegend(at("canvas"));
+  if (below) picture.leaveLegend();
+  else picture.layLegend(at("canvas"));
   viewer.show(picture);
+  layOther(below);
+  const { shown } = ran.drawn;
   const words = `from ${writeAt(shown.from)} to ${writeAt(shown.to)}, counted from ${at("origin").selectedOptions[0]?.textContent ?? "moment 0"}`;
   at("frame").setAttribute("aria-label", `Picture ${words}: a row for each class with its open time, its frames and how long they wait, and one for the wire. The table of frames says the same.`);
+  at("other-frame").setAttribute("aria-label", `Picture of the run under the other schedule, ${words}. The table of differences compares the two.`);
 }
 
 // What to draw: where no end is given, the picture goes to the moment that the run goes to.
@@ -270,7 +311,9 @@ async function drawValues() {
   const { port } = ran;
   const until = ran.values.until ?? ran.until;
   const values = { ...(await valuesFor("draw", readMoments)), ...port, width: widthNow() };
-  if (ran.window && values.from === null && values.to === null) Object.assign(values, ran.window);
+  const wanted = ran.other ? windowOfBoth(ran.window, ran.other.window) : ran.window;
+  if (wanted && values.from === null && values.to === null) Object.assign(values, wanted);
+  if (values.to === null && ran.other) values.to = endOfBoth(values.from ?? 0n);
   if (values.to === null && until !== null && until > (values.from ?? 0n)) values.to = until;
   return values;
 }
@@ -282,7 +325,10 @@ async function draw(mine) {
   if (mine !== turn) return undefined;
   const told = await ask(mine, { job: "draw", input: encoded(ran.source), beside: new Uint8Array(), values });
   if (!told) return undefined;
-  if (told.status === 0) return showPicture(told, values);
+  if (told.status === 0) {
+    await drawOther(mine, told, values);
+    return mine === turn ? showPicture(told, values) : undefined;
+  }
   hidePicture(`No picture: ${told.fault.trim().replace(/^taprio_port: /, "")}.`);
   return showFault(told.fault);
 }
@@ -290,9 +336,12 @@ async function draw(mine) {
 function showBounds() {
   const { streams } = ran.bounds[Number(at("which").value) || 0] ?? { streams: [] };
   if (!streams.length) return hidePicture("");
-  const { svg, place } = drawBounds(streams, widthNow(), writeTime);
+  const below = streamsOf(ran.other);
+  const most = [streams, below].map(latestOf).reduce((a, b) => (a > b ? a : b));
+  const { svg, place } = drawBounds(streams, widthNow(), writeTime, most);
   viewer.show({ svg });
   place();
+  showOtherBounds(below, most);
   addressOf(at("save-picture"), encoded(standalone(svg)), "image/svg+xml");
   at("zoom").hidden = false;
   showControls(false, ran.bounds.length > 1, false);
@@ -314,21 +363,31 @@ function standalone(svg) {
   return new XMLSerializer().serializeToString(copy);
 }
 
-// Saves what is shown as a bitmap, at twice its size.
-async function savePng() {
-  const svg = at("canvas").querySelector("svg");
-  if (!svg) return;
+// A picture of the page as an image.
+async function imageOf(svg) {
   const address = URL.createObjectURL(new Blob([standalone(svg)], { type: "image/svg+xml" }));
   const image = new Image();
   image.src = address;
   await image.decode();
+  URL.revokeObjectURL(address);
+  return image;
+}
+
+// Saves what is shown as a bitmap, at twice its size: of two pictures one below the other.
+async function savePng() {
+  const images = await Promise.all(canvases.map((it) => it.querySelector("svg")).filter(Boolean).map(imageOf));
+  if (!images.length) return;
   const canvas = document.createElement("canvas");
-  [canvas.width, canvas.height] = [2 * image.width, 2 * image.height];
+  canvas.width = 2 * Math.max(...images.map((it) => it.width));
+  canvas.height = 2 * images.reduce((sum, it) => sum + it.height, 0);
   const context = canvas.getContext("2d");
   context.fillStyle = getComputedStyle(document.body).backgroundColor;
   context.fillRect(0, 0, canvas.width, canvas.height);
-  context.drawImage(image, 0, 0, canvas.width, canvas.height);
-  URL.revokeObjectURL(address);
+  let top = 0;
+  for (const image of images) {
+    context.drawImage(image, 0, top, 2 * image.width, 2 * image.height);
+    top += 2 * image.height;
+  }
   const link = document.createElement("a");
   link.href = canvas.toDataURL("image/png");
   link.download = "run.png";
@@ -411,6 +470,7 @@ function showTables() {
     tables[ran.job].show(rows);
     addressOf(at("save-table"), encoded(tables[ran.job].csv), "text/csv");
   }
+  showDifferences();
   at("frames-box").hidden = !ran.frames.length;
   at("frames-name").textContent = `Frames (${ran.frames.length.toLocaleString("en")})`;
   if (at("frames-box").open) showFrames();
@@ -509,13 +569,19 @@ function streamsSaid(answers) {
   return ran.frames.length ? `As a script, run to 1 ms after its end: ${runVerdict(ran.frames, writeTime)}` : "The table has no frame.";
 }
 
-// What is said of a schedule that the run ends before, with a button that sets the clock of a script there.
-function laterSaid() {
-  const moment = ["script", "replay", "streams"].includes(ran.job) ? notYet(ran) : null;
-  at("set-clock").hidden = moment === null || ran.job !== "script";
+// What is said of a schedule that a run ends before.
+function laterOf(run) {
+  const moment = ["script", "replay", "streams"].includes(run.job) ? notYet(run) : null;
   if (moment === null) return "";
   const date = dateOf(moment);
-  return ` No schedule is in force yet: it comes into force at ${writeMoment(moment)}${date ? `, ${date} if counted from 1970` : ""}, and the run ends at ${writeMoment(endOfRun(ran))}. Until then every gate is open.`;
+  return ` No schedule is in force yet: it comes into force at ${writeMoment(moment)}${date ? `, ${date} if counted from 1970` : ""}, and the run ends at ${writeMoment(endOfRun(run))}. Until then every gate is open.`;
+}
+
+// The same of the run of the input, with a button that sets the clock of a script there.
+function laterSaid() {
+  const said = laterOf(ran);
+  at("set-clock").hidden = !said || ran.job !== "script";
+  return said;
 }
 
 function sayVerdict(answers) {
@@ -560,7 +626,7 @@ async function snapshot() {
   const values = await valuesFor(name, readMoments);
   if (name === "replay" && !second.length) throw new BadOption("capture", "No capture is chosen: choose a classic pcap file, or drop one on the page.");
   const { rate, mtu, room } = values;
-  return { job: name, text, beside: second, values, port: { rate, mtu, room }, until: null, frames: [], wire: [], times: timesOf([]), classes: [], changes: [], history: null, kinds: null, first: 0n, last: 0n, windows: [], bounds: [], schedules: [], source: null, why: "", drawn: null, window: null, waits: null };
+  return { job: name, text, beside: second, besideText: beside.text, otherText: COMPARED.includes(name) ? other.text.trimEnd() : "", other: null, values, port: { rate, mtu, room }, until: null, frames: [], wire: [], times: timesOf([]), classes: [], changes: [], history: null, kinds: null, first: 0n, last: 0n, windows: [], bounds: [], schedules: [], source: null, why: "", drawn: null, window: null, waits: null };
 }
 
 // Does a job for a run, and null where another run has begun since.
@@ -570,10 +636,10 @@ async function ask(mine, request) {
 }
 
 // What a script and its answers come to.
-async function takeRun(mine, script, until, answers) {
-  const told = await ask(mine, { job: "fates", script, answers, values: { ...ran.values, until } });
-  if (told) Object.assign(ran, { frames: told.frames, wire: told.wire, times: told.times, classes: told.classes, changes: told.changes, history: told.history, kinds: told.kinds, first: told.first, last: told.last, source: script, until, waits: null });
-  if (told && ["script", "replay"].includes(ran.job)) ran.window = windowOf(ran);
+async function takeRun(mine, run, script, until, answers) {
+  const told = await ask(mine, { job: "fates", script, answers, values: { ...run.values, until } });
+  if (told) Object.assign(run, { frames: told.frames, wire: told.wire, times: told.times, classes: told.classes, changes: told.changes, history: told.history, kinds: told.kinds, first: told.first, last: told.last, source: script, until, waits: null });
+  if (told && ["script", "replay"].includes(run.job)) run.window = windowOf(run);
 }
 
 // The schedule of a check that is drawn: two of its cycles from its change on.
@@ -582,7 +648,7 @@ async function takeSchedule(mine) {
   if (number === undefined) return;
   const told = await ask(mine, { job: "script", input: encoded(`${text}\n`), beside: new Uint8Array(), values: { ...ran.values, until: null, summary: false } });
   if (!told) return;
-  await takeRun(mine, `${text}\n`, null, new TextDecoder().decode(told.output));
+  await takeRun(mine, ran, `${text}\n`, null, new TextDecoder().decode(told.output));
   const [it] = ran.changes;
   if (!it || it.cycle === null) {
     ran.source = null;
@@ -593,41 +659,53 @@ async function takeSchedule(mine) {
 }
 
 // The script that a table of streams became is run, too: it is what its picture shows.
-async function takeScript(mine, script) {
+async function takeScript(mine, run, script) {
   const until = readScript(script).last + GOES_ON;
-  const values = { ...ran.values, until: until < GREATEST ? until : GREATEST };
+  const values = { ...run.values, until: until < GREATEST ? until : GREATEST };
   const told = await ask(mine, { job: "script", input: encoded(script), beside: new Uint8Array(), values });
   if (!told) return;
   if (told.status === 0) {
-    await takeRun(mine, script, values.until, new TextDecoder().decode(told.output));
-    const to = ran.frames.reduce((last, it) => (it.end !== null && it.end > last ? it.end : last), ran.last);
-    if (to > 0n) ran.window = { from: 0n, to };
-  } else ran.why = `No picture: the script that is made has a fault. ${explain(told.fault).text} Open it as a script to mend it.`;
+    run.told = new TextDecoder().decode(told.output);
+    await takeRun(mine, run, script, values.until, run.told);
+    const to = run.frames.reduce((last, it) => (it.end !== null && it.end > last ? it.end : last), run.last);
+    if (to > 0n) run.window = { from: 0n, to };
+  } else run.why = `No picture: the script that is made has a fault. ${explain(told.fault).text} Open it as a script to mend it.`;
 }
 
 // A replay is drawn as the script that it comes to. Where no end is given it goes on until no frame can start, which is at the last end.
-async function takeReplay(mine, answers) {
-  const script = scriptOfReplay(linesOf(ran.text), recordsOf(ran.beside));
+async function takeReplay(mine, run, answers) {
+  const script = scriptOfReplay(linesOf(run.text), recordsOf(run.beside));
   const ends = [...answers.matchAll(/^start .* end (\d+)/gm)].map(([, end]) => BigInt(end));
   const last = ends.reduce((most, it) => (it > most ? it : most), readScript(script).last);
-  await takeRun(mine, script, ran.values.until ?? last, answers);
+  await takeRun(mine, run, script, run.values.until ?? last, answers);
 }
 
-async function takeAnswers(mine, answers) {
-  const name = ran.job;
-  if (name === "script") await takeRun(mine, ran.text, ran.values.until, answers);
-  else if (name === "replay") await takeReplay(mine, answers);
-  else if (name === "streams") await takeScript(mine, answers);
-  else if (name === "bounds") ran.bounds = boundsIn(answers);
-  else if (name === "check") {
-    const input = encoded(ran.text);
-    const told = ran.values.windows ? null : await ask(mine, { job: "check", input, beside: new Uint8Array(), values: { ...ran.values, windows: true } });
-    ran.windows = windowsIn(told ? new TextDecoder().decode(told.output) : answers);
-    const tells = answers.match(/^(?:apart|refused|tc-fault)\b.*$/gm) ?? [];
-    ran.schedules = readScript(ran.text).commands.map(({ line: number, words }, place) => ({ number, name: `${place + 1} (line ${number})`, line: words.join(" "), told: tells[place] })).filter((it) => /^apart/.test(it.told ?? "") && it.line.includes("sched-entry"));
-  }
-  fillWhich(name === "bounds" ? ran.bounds.map((_, place) => String(place + 1)) : ran.schedules.map((it) => it.name));
-  if (name === "check") await takeSchedule(mine);
+// What the answers of a run come to: `told` are those to its schedule commands.
+async function takeAnswers(mine, run, answers) {
+  const name = run.job;
+  run.told = answers;
+  if (name === "script") await takeRun(mine, run, run.text, run.values.until, answers);
+  else if (name === "replay") await takeReplay(mine, run, answers);
+  else if (name === "streams") await takeScript(mine, run, answers);
+  else if (name === "bounds") run.bounds = boundsIn(answers);
+  else if (name === "check") await takeCheck(mine, answers);
+}
+
+async function takeCheck(mine, answers) {
+  const told = ran.values.windows ? null : await checkWindows(mine, ran.text);
+  ran.windows = windowsIn(told ? new TextDecoder().decode(told.output) : answers);
+  const tells = answers.match(/^(?:apart|refused|tc-fault)\b.*$/gm) ?? [];
+  ran.schedules = readScript(ran.text).commands.map(({ line: number, words }, place) => ({ number, name: `${place + 1} (line ${number})`, line: words.join(" "), told: tells[place] })).filter((it) => /^apart/.test(it.told ?? "") && it.line.includes("sched-entry"));
+}
+
+// What a check tells of schedules, with their windows.
+const checkWindows = (mine, text) => ask(mine, { job: "check", input: encoded(text), beside: new Uint8Array(), values: { ...ran.values, windows: true } });
+
+// What the answers of what stands in the page come to, and which of its schedules is shown.
+async function takeOwn(mine, answers) {
+  await takeAnswers(mine, ran, answers);
+  fillWhich(ran.job === "bounds" ? ran.bounds.map((_, place) => String(place + 1)) : ran.schedules.map((it) => it.name));
+  if (ran.job === "check") await takeSchedule(mine);
 }
 
 function fillWhich(names) {
@@ -648,15 +726,20 @@ async function work(mine, typed) {
     showFault(told.fault);
     return;
   }
+  const before = ran;
   ran = next;
   viewer.hold();
+  otherViewer.hold();
   tellWhy(null);
   const answers = new TextDecoder().decode(told.output);
   ran.answers = answers;
   // (of a long script the picture is drawn first, and its frames are found then)
   const late = ran.job === "script" && told.status === 0 && answers.length > LONG;
   if (late) ran.source = ran.text;
-  else if (told.status === 0) await takeAnswers(mine, answers);
+  else if (told.status === 0) {
+    await takeOwn(mine, answers);
+    if (mine === turn) await takeOther(mine, typed ? before : null);
+  }
   if (mine !== turn) return;
   fillOrigins(ran);
   at("results").hidden = false;
@@ -675,17 +758,18 @@ async function work(mine, typed) {
   }
   if (!late) sayVerdict(answers);
   await draw(mine);
-  if (late && mine === turn) await takeLate(mine, answers);
+  if (late && mine === turn) await takeLate(mine, answers, typed ? before : null);
 }
 
 // The frames of a long script, when its picture stands already.
-async function takeLate(mine, answers) {
-  await takeAnswers(mine, answers);
+async function takeLate(mine, answers, before) {
+  await takeOwn(mine, answers);
+  if (mine === turn) await takeOther(mine, before);
   if (mine !== turn) return;
   fillOrigins(ran);
   showTables();
   sayVerdict(answers);
-  if (ran.window) await draw(mine);
+  if (ran.window || ran.other) await draw(mine);
   else if (ran.drawn) layPicture();
 }
 
@@ -758,7 +842,7 @@ async function runAll(typed = false) {
 }
 
 // Whether what stands in the page is so short that it is run while it is typed.
-const isShort = () => editor.text.length + (["streams", "bounds"].includes(job()) ? beside.text.length : 0) <= MOST_RUN_SO && (job() !== "replay" || capture.length <= MOST_CAPTURE);
+const isShort = () => editor.text.length + other.text.length + (["streams", "bounds"].includes(job()) ? beside.text.length : 0) <= MOST_RUN_SO && (job() !== "replay" || capture.length <= MOST_CAPTURE);
 
 // What stands in the page was changed: it is run after a moment without another change, where it is short.
 function runSoon() {
@@ -783,7 +867,151 @@ async function runPicture() {
   if (again) await runPicture();
 }
 
-// 5. What stands in the page
+// 5. The other schedule
+
+// The streams of bounds that are shown; none where there are no bounds.
+const streamsOf = (run) => (run?.bounds[run === ran ? Number(at("which").value) || 0 : 0] ?? { streams: [] }).streams;
+
+// The end of the longer one of two runs; null where that is not after a moment.
+function endOfBoth(from) {
+  const [one, its] = [ran, ran.other].map(endOfRun);
+  const end = one > its ? one : its;
+  return end > from ? end : null;
+}
+
+// Says beside its field what is wrong with the other schedule, or nothing; its line is marked where there is one.
+function sayOther(words, line = null) {
+  at("other-fault").hidden = !words;
+  at("other-fault").textContent = words;
+  other.markLine(line);
+}
+
+// Whether two runs are of one input: then what stood beside the first can stand beside the second.
+const isSame = (one, its) =>
+  ["job", "text", "besideText"].every((name) => one[name] === its[name]) && (one.job !== "replay" || one.beside === its.beside) && Object.keys(one.values).every((name) => one.values[name] === its.values[name]);
+
+// The other schedule can't be run: what is shown of an earlier one stays, where it is of the same input.
+function refuseOther(words, line, before) {
+  const stays = before?.other && isSame(before, ran);
+  if (stays) ran.other = before.other;
+  for (const name of ["other-view", "differences-box"]) at(name).classList.toggle("stale", Boolean(stays));
+  sayOther(stays ? `${words} What is shown is of an earlier schedule.` : words, line);
+}
+
+// What stands in the page, with the other schedule in the place of its own.
+function inputOfOther(words) {
+  const { job: name, text, besideText, beside: second } = ran;
+  if (name === "streams") return { text, beside: encoded(withSchedule(besideText, words)) };
+  return { text: name === "bounds" ? words : withSchedule(text, words), beside: second };
+}
+
+// Runs what stands in the page under the other schedule, where one is given.
+async function takeOther(mine, before) {
+  sayOther("");
+  for (const name of ["other-view", "differences-box"]) at(name).classList.remove("stale");
+  const words = ran.otherText;
+  if (!words.trim()) return;
+  const checked = await checkWindows(mine, words);
+  if (!checked) return;
+  const fault = checked.status === 0 ? null : explain(checked.fault);
+  if (fault) refuseOther(fault.text, fault.line, before);
+  else if (!commandsIn(words).length) refuseOther("No schedule stands there: a line tc qdisc replace .. taprio .. gives one.", null, before);
+  else await runOther(mine, words, windowsIn(new TextDecoder().decode(checked.output)), before);
+}
+
+async function runOther(mine, words, windows, before) {
+  const run = { ...ran, ...inputOfOther(words), drawn: null };
+  const told = await ask(mine, { job: run.job, input: encoded(run.text), beside: run.beside, values: run.values });
+  if (!told) return;
+  run.answers = new TextDecoder().decode(told.output);
+  if (told.status === 0) await takeAnswers(mine, run, run.answers);
+  if (mine !== turn) return;
+  const [refused] = refusedCommands(words, run.told);
+  if (told.status !== 0) refuseOther(explain(told.fault).text, null, before);
+  else if (refused) refuseOther(`Line ${refused.line}: ${refused.answer}.`, refused.line, before);
+  else ran.other = { ...run, windows };
+  if (ran.other) await takeOwnWindows(mine);
+}
+
+// The windows of the input's schedules.
+async function takeOwnWindows(mine) {
+  const commands = commandsIn(ran.job === "streams" ? ran.besideText : ran.text);
+  const told = await checkWindows(mine, `${commands.join("\n")}\n`);
+  if (told?.status === 0) ran.windows = windowsIn(new TextDecoder().decode(told.output));
+}
+
+function showDifferences() {
+  const its = ran.other;
+  at("differences-box").hidden = !its;
+  if (!its) return;
+  differenceTable.show(ran.job === "bounds" ? differencesByStream(streamsOf(ran), streamsOf(its)) : differencesByClass(ran, its));
+  addressOf(at("save-differences"), encoded(differenceTable.csv), "text/csv");
+  addressOf(at("save-other-answers"), encoded(its.answers), "text/plain");
+  at("other-verdict").textContent = ran.job === "bounds" ? boundsVerdict(its.bounds[0], writeTime) : runVerdict(its.frames, writeTime) + laterOf(its);
+}
+
+// Draws the same time of the run under the other schedule.
+async function drawOther(mine, { output }, values) {
+  const its = ran.other;
+  if (!its) return;
+  const shown = its.source === null ? null : shownIn(new TextDecoder().decode(output), values);
+  const told = shown && (await ask(mine, { job: "draw", input: encoded(its.source), beside: new Uint8Array(), values: { ...values, ...shown } }));
+  if (mine !== turn) return;
+  its.drawn = told?.status === 0 ? { text: new TextDecoder().decode(told.output), shown } : null;
+  if (its.drawn) addressOf(at("save-other-picture"), told.output, "image/svg+xml");
+}
+
+function layOther(picture) {
+  for (const name of ["frame-name", "other-view"]) at(name).hidden = !picture;
+  if (picture) {
+    at("other-frame").hidden = false;
+    picture.layLegend(at("other-canvas"));
+  } else at("save-other-picture").hidden = true;
+  otherViewer.show(picture);
+}
+
+function showOtherBounds(streams, most) {
+  if (!streams.length) return hideOther();
+  const { svg, place } = drawBounds(streams, widthNow(), writeTime, most);
+  for (const name of ["frame-name", "other-view"]) at(name).hidden = false;
+  otherViewer.show({ svg });
+  place();
+  return addressOf(at("save-other-picture"), encoded(standalone(svg)), "image/svg+xml");
+}
+
+const hideOther = () => layOther(null);
+
+// Shows the field of the other schedule or the button that opens it, where the job has one.
+function showOtherField(open) {
+  const has = COMPARED.includes(jobShown);
+  at("other-field").hidden = !has || !open;
+  at("compare").hidden = !has || open;
+}
+
+function openCompare() {
+  showOtherField(true);
+  other.area.focus();
+}
+
+// Puts another text into the field of the other schedule: Ctrl+Z brings back what stood there.
+function putOther(text) {
+  notePast();
+  other.text = text;
+  becomeOwn();
+}
+
+function copySchedule() {
+  putOther(commandsIn(job() === "streams" ? beside.text : editor.text).map((it) => `${it.trim().replace(/[ \t\r]+/g, " ")}\n`).join(""));
+  other.area.focus();
+}
+
+function endCompare() {
+  if (other.text) putOther("");
+  showOtherField(false);
+  at("compare").focus();
+}
+
+// 6. What stands in the page
 
 // What is shown is of another text or of other options than stand there now; a fault, too.
 function setStale(is, words = "Changed since this was run, and too long to be run while you type. Run it (Ctrl+Enter in the text).") {
@@ -798,6 +1026,7 @@ function setJob(name) {
   at("text-hint").textContent = HINTS[name];
   at("beside-label").textContent = BESIDE[name] ?? "";
   for (const part of document.querySelectorAll("[data-jobs]")) part.hidden = !part.dataset.jobs.split(" ").includes(name);
+  showOtherField(other.text !== "");
 }
 
 function setCapture(octets, name) {
@@ -805,7 +1034,7 @@ function setCapture(octets, name) {
   at("capture-name").textContent = octets.length ? `${name}, ${count(octets.length, "octet")}` : "none is chosen";
 }
 
-const stateNow = () => ({ job: jobShown, ...wordsOfOptions(), ...(["streams", "bounds"].includes(jobShown) ? { beside: beside.text } : {}), text: editor.text });
+const stateNow = () => ({ job: jobShown, ...wordsOfOptions(), ...(["streams", "bounds"].includes(jobShown) ? { beside: beside.text } : {}), ...(other.text && COMPARED.includes(jobShown) ? { other: other.text } : {}), text: editor.text });
 
 // Puts a text, its kind and its options into the page, and runs it.
 function load(state) {
@@ -814,6 +1043,8 @@ function load(state) {
   setOptions(state.job === "check" ? { ...state, from: "", to: "" } : state);
   editor.text = state.text ?? "";
   beside.text = state.beside ?? "";
+  other.text = state.other ?? "";
+  showOtherField(other.text !== "");
   for (const part of [editor, beside]) part.writeMicros();
   timeGiven = exampleShown !== OWN;
   saySentence();
@@ -832,7 +1063,7 @@ function keep() {
   try {
     const withCapture = job() === "replay" && 4 * capture.length < 3 * MOST_KEPT ? { capture: base64Of(capture), name: captureName } : {};
     const state = { ...stateNow(), ...withCapture, example: exampleShown, entry, changed };
-    if (editor.text.length + beside.text.length > MOST_KEPT) delete state.text;
+    if (editor.text.length + beside.text.length + other.text.length > MOST_KEPT) delete state.text;
     sessionStorage.setItem(KEPT, JSON.stringify(state));
   } catch {
     // (a browser may keep nothing for files)
@@ -938,7 +1169,7 @@ function undoByKey(event) {
   if (!(event.ctrlKey || event.metaKey) || event.altKey) return;
   const key = event.key.toLowerCase();
   const [from, to] = key === "y" || (key === "z" && event.shiftKey) ? [future, past] : key === "z" ? [past, future] : [[], []];
-  const part = [editor, beside].find((it) => it.area === event.target);
+  const part = editors.find((it) => it.area === event.target);
   if (!from.length || (part ? !part.fresh : event.target.matches?.("input:not([type=radio], [type=checkbox])"))) return;
   event.preventDefault();
   goBack(from, to);
@@ -1147,10 +1378,11 @@ async function openLink() {
 async function takeAsScript() {
   const text = ran.answers;
   const { rate, mtu, room } = wordsOfOptions();
+  const its = other.text;
   notePast();
   showOwn({});
   changed = true;
-  await load({ job: "script", rate, mtu, room, text });
+  await load({ job: "script", rate, mtu, room, text, other: its });
 }
 
 // A file may be dropped anywhere, and the page shows so while it is dragged; text that is dragged stays with the browser.
@@ -1192,6 +1424,8 @@ function listenToInput() {
     part.area.addEventListener("replace", ({ detail }) => (detail.whole ? (beginAnother(), forgetTime()) : notePast()));
     part.area.addEventListener("input", () => (part.writeMicros(), becomeOwn()));
   }
+  other.area.addEventListener("replace", notePast);
+  other.area.addEventListener("input", becomeOwn);
   for (const input of document.querySelectorAll(".options input, .options select")) input.addEventListener("input", changeOption);
   at("example").addEventListener("change", chooseExample);
   at("back").addEventListener("click", () => stepExample(-1));
@@ -1201,6 +1435,9 @@ function listenToInput() {
   at("stop").addEventListener("click", () => runner.stop());
   at("link").addEventListener("click", makeLink);
   at("take").addEventListener("click", takeAsScript);
+  at("compare").addEventListener("click", openCompare);
+  at("copy-schedule").addEventListener("click", copySchedule);
+  at("end-compare").addEventListener("click", endCompare);
 }
 
 function listenToResults() {

@@ -259,6 +259,11 @@ export class Picture {
     return boxes;
   }
 
+  /** Leaves the legend away: a picture below has it. */
+  leaveLegend() {
+    this.#size(this.svg, 0);
+  }
+
   /** Lays out the legend by the width of its words, in as many lines as it needs, before the picture is put into a place of the page. */
   layLegend(canvas) {
     const boxes = this.#boxesIn(canvas);

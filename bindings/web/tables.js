@@ -2,7 +2,10 @@
 
 const ROWS = 500; // rows that are shown
 
-/** A table within a box; columns are `{ name, title, kind }`, where kind is "number", "text", "time" (a length) or "moment". */
+/**
+ * A table within a box; columns are `{ name, title, kind }`, where kind is "number", "text", "time" (a length),
+ * "moment", "measure" (a number, a text or a length) or "change" (a number or a length with its sign, or a text).
+ */
 export class Table {
   #columns;
   #rows = [];
@@ -12,7 +15,7 @@ export class Table {
   /**
    * @param {HTMLElement} box
    * @param {{name: string, title: string, kind: string}[]} columns
-   * @param {{time: (time: bigint) => string, moment: (moment: bigint) => string, choose?: (row: object) => void}} how writes times, and is
+   * @param {{time: (time: bigint) => string, moment: (moment: bigint) => string, change?: (value: bigint | number | string) => string, choose?: (row: object) => void}} how writes times, and is
    *   told of a row that is clicked
    */
   constructor(box, columns, how) {
@@ -104,7 +107,7 @@ export class Table {
     const cell = document.createElement("td");
     const time = typeof value === "bigint";
     cell.className = kind;
-    cell.textContent = value === null || value === undefined ? "–" : time ? this.how[kind](value) : String(value);
+    cell.textContent = value === null || value === undefined ? "–" : time || kind === "change" ? this.how[kind](value) : String(value);
     if (time) cell.title = `${value} ps`;
     return cell;
   }

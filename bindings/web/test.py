@@ -823,6 +823,143 @@ CUT = """const box = document.querySelector('#canvas svg').getBoundingClientRect
       || parts.some((other, at) => at < place && other.left < it.right && it.left < other.right && other.top < it.bottom - 2 && it.top < other.bottom - 2)).length]"""
 
 
+OTHER = "tc qdisc replace dev eth0 root taprio num_tc 8 map 0 1 2 3 4 5 6 7 base-time 20000 sched-entry S 81 22303 sched-entry S 00 40000"
+# What the table of differences says, row by row.
+DIFFERENCES = "return [...document.querySelectorAll('#differences tbody tr')].map((it) => [...it.cells].map((cell) => cell.textContent))"
+SIDES = "return [at('frame'), at('other-frame'), at('differences')].map((it) => it.checkVisibility())"
+
+
+def with_schedule(text, *commands):
+    """A script with these schedule commands in the place of its own, each in one line; beyond them its own are left away."""
+    given = list(commands)
+    return re.sub(r"^tc (?:.*\\\n)*.*\n", lambda _: f"{given.pop(0)}\n" if given else "", text, flags=re.M)
+
+
+def summed_up(text):
+    """What the program sums up of a script: by class, what was sent, the least, the mean and the greatest wait in picoseconds."""
+    said = program("script", "--summary", text=text.encode())[1].decode()
+    found = re.findall(r"^summary class (\d) queued \d+ sent (\d+) .* least (\d+) mean (\d+) greatest (\d+) most", said, re.M)
+    return {f"class {kind}": [int(it) for it in numbers] for kind, *numbers in found}
+
+
+def sides(page, what, text, alone):
+    """That both pictures are the program's, of one time."""
+    begin, end = window(page) if page.do("return at('from').value") else ("0", "100000000")
+    words = ["--from", begin, "--to", end, "--width", page.do("return at('frame').dataset.width")]
+    one, other = (program("draw", *words, text=it.encode())[1] for it in (text, alone))
+    page.same(f"{what}, the input's", page.saved("save-picture"), one)
+    page.same(f"{what}, the other's", page.saved("save-other-picture"), other)
+    # (the lower one has the legend of both)
+    bars = [len(re.findall(rb'<rect class="f[ "]', it)) for it in (one, other)]
+    page.same(f"bars of {what}", page.do("return ['canvas', 'other-canvas'].map((it) => at(it).querySelectorAll('rect.f').length + Number(at(it).querySelector('svg').dataset.shaded))"), [bars[0] - 1, bars[1]])
+
+
+def try_compare(page):
+    """A script under a second schedule: its answers, its picture and what differs are those of a run of that schedule alone."""
+    page.choose("schedule.script")
+    page.same("no second schedule at first", page.do(f"at('compare').focus(); {SIDES}"), [True, False, False])
+    page.browser.press("Enter")
+    page.same("the field that the button opens", page.do("return document.activeElement.id"), "other")
+    page.browser.type(OTHER)
+    page.browser.press("Enter", control=True)
+    page.settle()
+    text = page.do("return at('text').value")
+    alone = with_schedule(text, OTHER)
+    page.answers("a script beside another schedule", program("script", text=text.encode())[1])
+    page.same("answers under the other schedule", page.saved("save-other-answers"), program("script", text=alone.encode())[1])
+    page.same("both pictures and what differs", page.do(SIDES), [True, True, True])
+    sides(page, "a whole run", text, alone)
+    page.do("at('ps').click()")
+    rows = {(kind, what): [one, other, change] for kind, what, one, other, change in page.do(DIFFERENCES)}
+    page.do("at('ps').click()")
+    one, other = summed_up(text), summed_up(alone)
+    for kind in one:
+        for what, before, after in zip(("Sent", "Least wait", "Mean wait", "Greatest wait"), one[kind], other[kind]):
+            change = f"{after - before:+}".replace("-", "\u2212") if after != before else "0"
+            page.same(f"{what} of {kind}", rows[kind, what], [str(before), str(after), change])
+    page.same("a gate", rows["class 7", "Gate open at most"], ["12303000", "22303000", "+10000000"])
+    page.click("[data-step=nearer]")
+    page.settle()
+    sides(page, "both, nearer", text, alone)
+    page.do("at('other-frame').dispatchEvent(new KeyboardEvent('keydown', { key: 'ArrowRight', shiftKey: true, bubbles: true }))")
+    page.settle()
+    sides(page, "both, moved in the other", text, alone)
+    page.click("[data-step=whole]")
+    page.settle()
+    page.do("at('other-frame').dispatchEvent(new KeyboardEvent('keydown', { key: 'ArrowRight', bubbles: true }))")
+    page.same("why a frame waits under both", [it in page.text("why") for it in ("Frame 1 waits 13.336 us", "Under the other schedule: Frame 1 does not wait.")], [True, True])
+    page.same("a frame that is marked in both", page.do("return document.querySelectorAll('.canvas rect.ring').length"), 2)
+    try_compare_kept(page, text)
+    try_compare_jobs(page)
+
+
+def try_compare_kept(page, text):
+    """A link carries the other schedule, a fault of it loses nothing, and Ctrl+Z brings back what was compared."""
+    page.click("#link")
+    wait_for(page.browser, "return document.getElementById('address').value.includes('other=')")
+    page.open("#" + page.do("return at('address').value").partition("#")[2])
+    page.same("the other schedule of a link", page.do(f"return [at('other').value, (() => {{ {SIDES} }})()]"), [OTHER, [True, True, True]])
+    for bad, said in ((f"{OTHER}\ntc qdisc replace dev eth0 root taprio num_tc 2\n", "Line 2: tc-fault MissingWord map."), ("\nclok 7\n", "Line 2: UnknownLine, "), ("# none\n", "No schedule stands there")):
+        page.set("other", bad)
+        page.run()
+        page.same(f"fault of {bad!r}", page.text("other-fault")[: len(said)], said)
+        page.same(f"what stays beside {bad!r}", page.do(f"return [at('fault').hidden, (() => {{ {SIDES} }})()]"), [True, [True, False, False]])
+        page.answers(f"the input beside {bad!r}", program("script", text=text.encode())[1])
+    page.set("other", OTHER)
+    page.run()
+    page.set("other", "clok")
+    wait_for(page.browser, "return !document.getElementById('other-fault').hidden")
+    page.settle()
+    page.same("while it is typed", page.do(f"return [at('other-fault').textContent.endsWith('What is shown is of an earlier schedule.'), (() => {{ {SIDES} }})()]"), [True, [True, True, True]])
+    page.set("other", OTHER)
+    page.run()
+    page.click("#end-compare")
+    time.sleep(0.5)
+    page.settle()
+    page.same("no longer compared", page.do(f"return [at('other-field').hidden, at('compare').hidden, (() => {{ {SIDES} }})()]"), [True, False, [True, False, False]])
+    page.do("at('text').focus()")
+    page.browser.press("z", control=True)
+    wait_for(page.browser, "return document.getElementById('differences').checkVisibility()")
+    page.same("brought back", page.do("return at('other').value"), OTHER)
+
+
+def try_compare_jobs(page):
+    """Bounds, a table of streams and a replay under another schedule."""
+    page.choose("drive.bounds")
+    short = (EXAMPLES / "drive_short.schedule").read_text(encoding="utf-8")
+    page.click("#compare")
+    page.set("other", short)
+    page.run()
+    page.same("bounds under the other schedule", page.saved("save-other-answers"), program("bounds", EXAMPLES / "drive.streams", text=short.encode())[1])
+    page.same("deadlines under both", page.do(DIFFERENCES)[0], ["all", "Deadlines met, of 4 streams", "4", "2", "\u22122"])
+    page.choose("planned.streams")
+    page.click("#compare")
+    page.set("other", OTHER)
+    page.run()
+    with tempfile.NamedTemporaryFile("w", encoding="utf-8") as file:
+        file.write(with_schedule((EXAMPLES / "planned.schedule").read_text(encoding="utf-8"), OTHER))
+        file.flush()
+        wanted = program("streams", "--with", file.name, text=(EXAMPLES / "planned.streams").read_bytes())[1]
+    page.same("streams under the other schedule", page.saved("save-other-answers"), wanted)
+    page.choose("machine.pcap")
+    command = "tc qdisc replace dev eth0 root taprio num_tc 2 map 0 0 0 0 0 0 1 0 base-time 0 sched-entry S 02 20000 sched-entry S 01 230000"
+    page.click("#compare")
+    page.set("other", command)
+    page.run()
+    with tempfile.NamedTemporaryFile("w", encoding="utf-8") as file, tempfile.NamedTemporaryFile() as out:
+        file.write(with_schedule((EXAMPLES / "machine.script").read_text(encoding="utf-8"), command))
+        file.flush()
+        wanted = program("replay", "--until", "2000000000", file.name, EXAMPLES / "machine.pcap", out.name)[1]
+    page.same("a replay under the other schedule", page.saved("save-other-answers"), wanted)
+    for width in (1366, 390, 320):
+        at_size(page, width, 844)
+        page.same(f"two schedules at {width}", page.do("return [at('other-frame').checkVisibility(), document.documentElement.scrollWidth <= document.documentElement.clientWidth]"), [True, True])
+        page.same(f"contrast of two schedules at {width}", page.do(CONTRAST), [])
+        page.browser.shoot(SHOTS / f"{page.browser.name}-compare-{width}.png")
+    page.browser.look()
+    page.choose("first.script")
+
+
 def try_rows(page):
     """Only rows of classes of the map, and of frames, are shown; what lies in them is found and marked there; the legend is whole at each width."""
     page.choose("first.script")
@@ -1466,7 +1603,7 @@ def try_looks(page):
     shoot(page, "replay")
 
 
-TRIES = [try_examples, try_replay, try_typing, try_options, try_worked, try_faults, try_refused, try_zoom, try_keys, try_micros, try_moments, try_frames, try_reasons, try_why, try_drops, try_tips, try_marks, try_pictures, try_rows, try_shades, try_whole, try_bounds,
+TRIES = [try_examples, try_replay, try_typing, try_options, try_worked, try_faults, try_refused, try_zoom, try_keys, try_micros, try_moments, try_frames, try_reasons, try_why, try_drops, try_tips, try_marks, try_pictures, try_rows, try_shades, try_whole, try_bounds, try_compare,
          try_story, try_tabs, try_kept, try_long, try_files, try_forgotten, try_dates, try_stale, try_live, try_link, try_stop, try_access, try_screens, try_sizes, try_looks]
 
 

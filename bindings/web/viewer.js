@@ -16,7 +16,8 @@ export class Viewer {
   #wanted = null; // the time that is wanted last, until its picture comes
 
   /**
-   * @param {{box: HTMLElement, canvas: HTMLElement, band: HTMLElement, tip: HTMLElement}} parts
+   * @param {{box: HTMLElement, canvas: HTMLElement, canvases: HTMLElement[], band: HTMLElement, tip: HTMLElement}} parts `canvases` are those
+   *   that move together
    * @param {{want: (time: {from: bigint, to: bigint}) => void, whole: () => void, choose: (frame: object) => void, tell: (found: object) => Node[]}} calls
    */
   constructor(parts, calls) {
@@ -37,7 +38,7 @@ export class Viewer {
   show(picture) {
     this.picture = picture;
     this.#wanted = null;
-    this.canvas.style.transform = "";
+    this.#moveAll("");
     this.canvas.replaceChildren(...(picture ? [picture.svg] : []));
     this.box.hidden = !picture;
     this.box.classList.remove("held");
@@ -74,6 +75,12 @@ export class Viewer {
     this.picture.mark(frame);
     const { x, y } = this.picture.placeOf(frame);
     this.#tell({ frame }, x, y);
+  }
+
+  /** Marks a frame, or none, where it is. */
+  ring(frame) {
+    this.frame = frame;
+    if (this.#hasTime()) this.picture.mark(frame);
   }
 
   #hasTime() {
@@ -155,7 +162,7 @@ export class Viewer {
     else if (Math.abs(event.clientX - begun.client) > MOVED || begun.moved) {
       begun.moved = true;
       if (begun.stretch) this.#stretch(begun.at.x, at.x);
-      else this.canvas.style.transform = `translateX(${event.clientX - begun.client}px)`;
+      else this.#moveAll(`translateX(${event.clientX - begun.client}px)`);
     }
   }
 
@@ -165,8 +172,12 @@ export class Viewer {
     if (!begun.spread) return;
     begun.moved = true;
     begun.wanted = zoomed(begun.time, this.picture.moment(begun.middle), begun.spread / spread);
-    this.canvas.style.transformOrigin = `${begun.middle * this.#scale()}px 0`;
-    this.canvas.style.transform = `scaleX(${spread / begun.spread})`;
+    this.#moveAll(`scaleX(${spread / begun.spread})`, `${begun.middle * this.#scale()}px 0`);
+  }
+
+  // Moves the picture, and those that move with it, until they are drawn anew.
+  #moveAll(transform, origin = "") {
+    for (const { style } of this.canvases) [style.transform, style.transformOrigin] = [transform, origin];
   }
 
   #stretch(one, other) {
@@ -193,7 +204,7 @@ export class Viewer {
     this.#pointers.clear();
     this.#begun = null;
     this.band.hidden = true;
-    this.canvas.style.transform = "";
+    this.#moveAll("");
   }
 
   #press(at) {
