@@ -56,10 +56,24 @@ export class Editor {
   writeMicros() {
     const plain = this.text.replace(/^[ \t]*stream\b.*[µμ]s.*$/gm, (line) => line.replace(/[µμ](?=s\b)/g, "u"));
     if (plain === this.text) return;
-    const { selectionStart, selectionEnd, scrollTop } = this.area;
-    this.text = plain;
-    this.area.setSelectionRange(selectionStart, selectionEnd);
-    this.area.scrollTop = scrollTop;
+    const { selectionStart, selectionEnd } = this.area;
+    this.#exchange(plain, selectionStart, selectionEnd);
+  }
+
+  /** Puts in a text that differs in a part, and selects this part where it can be seen. */
+  change(text, begin, end) {
+    this.#exchange(text, begin, end);
+    this.#reveal(begin, end);
+  }
+
+  /** What the page put in last, before it was typed in. */
+  get put() {
+    return this.#held ? this.#text : this.#put;
+  }
+
+  /** Whether the text is too long to be changed. */
+  get isHeld() {
+    return this.#held !== null;
   }
 
   /** Whether nothing was changed since the page put the text in, so that the browser has nothing to undo. */
@@ -99,6 +113,28 @@ export class Editor {
     this.#base = this.#held ? base : 0;
     this.area.value = this.#held ? this.#held.slice(base, base + AT_ONCE).join("\n") : text;
     this.#put = this.area.value;
+  }
+
+  // Puts another text in, which stays scrolled where it is.
+  #exchange(text, begin, end) {
+    const { scrollTop, scrollLeft } = this.area;
+    this.text = text;
+    this.area.setSelectionRange(begin, end);
+    this.area.scrollTo(scrollLeft, scrollTop);
+    this.#place();
+  }
+
+  // Scrolls so far that a part of the text is seen.
+  #reveal(begin, end) {
+    const above = this.area.value.slice(0, begin);
+    const [top, left] = [(above.split("\n").length - 1) * this.#height(), begin - above.lastIndexOf("\n") - 1];
+    const { scrollTop, clientHeight, scrollLeft, clientWidth } = this.area;
+    if (top < scrollTop || top + 2 * this.#height() > scrollTop + clientHeight) this.area.scrollTop = Math.max(0, top - this.#height());
+    const pen = document.createElement("canvas").getContext("2d");
+    pen.font = getComputedStyle(this.area).font;
+    const [from, to] = [left, left + end - begin + 2].map((it) => it * pen.measureText("0").width);
+    if (from < scrollLeft || to > scrollLeft + clientWidth - 20) this.area.scrollLeft = Math.max(0, from - clientWidth / 2);
+    this.#place();
   }
 
   // Puts a text in the place of what is selected, or of all, and the cursor behind it.

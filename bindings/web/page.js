@@ -18,6 +18,7 @@ import { commandsIn, differencesByClass, differencesByStream, windowOfBoth, with
 import { dateOf, endOfRun, notYet, originOf, setClock, windowOf } from "./happens.js";
 import { count } from "./words.js";
 import { Inputs } from "./inputs.js";
+import { Strip } from "./strip.js";
 import { jobOf, kindOf, recordsOf, scriptOfReplay } from "./captures.js";
 import { STEPS } from "./gallery.js";
 import { INSTEAD, lacking } from "./support.js";
@@ -51,6 +52,7 @@ const editor = new Editor(at("editor"));
 const beside = new Editor(at("beside-editor"));
 const other = new Editor(at("other-editor")); // the schedule that is compared with that of the input
 const editors = [editor, beside, other];
+const strip = new Strip(at("gates"), { begin: () => noteGates(), change: (...words) => putGates(...words), end: () => endGates() });
 
 const inputs = new Inputs();
 const past = []; // what stood in the page before another text took its place, for Ctrl+Z
@@ -72,6 +74,8 @@ let turn = 0; // the number of the run whose results are wanted
 let working = 0; // the number of the run of all that goes on
 let drawing = false; // whether a picture is drawn for itself
 let again = false; // whether it is to be drawn once more
+let moving = false; // whether what is moved by hand is run
+let moved = false; // and whether it was moved since
 
 const COMPARED = ["script", "bounds", "streams", "replay"]; // the jobs of which another schedule is run, too
 const NAMES = { script: "Script", bounds: "Schedules", check: "Schedules", streams: "Table of streams", replay: "Script of the replay" };
@@ -830,6 +834,7 @@ async function begin(what, typed = false) {
 // Begins a run of what stands in the page. What is shown is of another one until its answers come, and stays as high as it is.
 async function runAll(typed = false) {
   clearTimeout(runTimer);
+  showGates();
   if (!typed) {
     keep();
     clearFault();
@@ -847,6 +852,7 @@ const isShort = () => editor.text.length + other.text.length + (["streams", "bou
 // What stands in the page was changed: it is run after a moment without another change, where it is short.
 function runSoon() {
   clearTimeout(runTimer);
+  showGates();
   if (isShort()) {
     setStale(true, "");
     runTimer = setTimeout(() => runAll(true), RUN_AFTER);
@@ -1011,7 +1017,69 @@ function endCompare() {
   at("compare").focus();
 }
 
-// 6. What stands in the page
+// 6. The gates by hand
+
+// The editor whose text has the schedules.
+const scheduleEditor = () => (job() === "streams" ? beside : editor);
+
+// Whether the strip is open: where there is much room it is at first.
+let gatesOpen = matchMedia("(min-width: 60.01rem)").matches;
+
+// Shows the gate lists of what stands in the page: that in which the cursor stands, where a text is typed.
+function showGates() {
+  const part = scheduleEditor();
+  strip.show(part.isHeld ? "" : part.text, document.activeElement === part.area ? part.area.selectionStart : -1);
+  const open = strip.has && gatesOpen;
+  at("edit-gates").hidden = !strip.has;
+  at("edit-gates").setAttribute("aria-expanded", String(open));
+  at("edit-gates").textContent = open ? "Hide the gates" : "Gates by hand";
+  at("gates-hint").hidden = !open;
+  if (at("gates").hidden === !open) return;
+  at("gates").hidden = !open;
+  if (open) strip.draw();
+}
+
+function openGates() {
+  gatesOpen = !gatesOpen;
+  showGates();
+}
+
+// Notes what stands in the page before gates are changed by hand, so that Ctrl+Z brings it back; and what stood there before it was typed in.
+function noteGates() {
+  const part = scheduleEditor();
+  const typed = part.fresh ? null : part.put;
+  notePast();
+  if (typed !== null) past.splice(-1, 0, { ...past.at(-1), [part === beside ? "beside" : "text"]: typed });
+}
+
+// Puts a text with other gates into the page, and runs it: one run after the other, each of the newest text.
+function putGates(text, begin, end) {
+  document.body.classList.add("moving");
+  scheduleEditor().change(text, begin, end);
+  becomeOwn();
+  if (isShort()) runMoved();
+  else document.body.classList.remove("moving");
+}
+
+async function runMoved() {
+  moved = moving;
+  clearTimeout(runTimer);
+  if (moving) return;
+  moving = true;
+  await runAll(true);
+  moving = false;
+  if (moved) await runMoved();
+  else document.body.classList.remove("moving");
+}
+
+// What was moved stays as it is: a run of what stood there meanwhile is not waited for.
+function endGates() {
+  if (!moved) return;
+  moved = false;
+  runAll(true);
+}
+
+// 7. What stands in the page
 
 // What is shown is of another text or of other options than stand there now; a fault, too.
 function setStale(is, words = "Changed since this was run, and too long to be run while you type. Run it (Ctrl+Enter in the text).") {
@@ -1161,7 +1229,7 @@ async function goBack(from, to) {
   if (example === OWN) showOwn(its);
   else showExample(example);
   await load(state);
-  editor.area.focus();
+  if (!at("gates").contains(document.activeElement)) editor.area.focus();
 }
 
 // Ctrl+Z and Ctrl+Y where the browser itself has nothing to undo in the text.
@@ -1438,6 +1506,7 @@ function listenToInput() {
   at("compare").addEventListener("click", openCompare);
   at("copy-schedule").addEventListener("click", copySchedule);
   at("end-compare").addEventListener("click", endCompare);
+  at("edit-gates").addEventListener("click", openGates);
 }
 
 function listenToResults() {
@@ -1473,6 +1542,7 @@ function listen() {
   addEventListener("resize", () => {
     if (innerWidth === width) return;
     width = innerWidth;
+    strip.draw();
     runPicture();
   });
 }

@@ -1,0 +1,350 @@
+// The strip in which the gate list of a tc line is changed by hand: its edges are dragged, or moved by keys.
+import { gateListsIn, limitsOf, movedEdge, patched, removedEntry, snapped, splitEntry, stepOf, toggledGate } from "./gates.js";
+import { ticks, writeMoment } from "./moments.js";
+import { LEFT, RIGHT } from "./sizes.js";
+import { element } from "./svg.js";
+
+const LANE = 10; // pixels of a class
+const AXIS = 14; // and of what stands below them
+const REACH = 12; // pixels from an edge at which it is taken
+const FINGER_REACH = 22; // and by a finger
+const STIRRED = 3; // pixels after which a press on a gate is no click
+const FREE = 0.06; // the share of the strip behind a cycle that is the sum of its intervals
+const JOINED = 1000; // milliseconds between two keys that Ctrl+Z takes back together
+
+const inPicoseconds = (nanoseconds) => BigInt(Math.round(nanoseconds)) * 1000n;
+const written = (nanoseconds) => (nanoseconds === 0 ? "0" : writeMoment(inPicoseconds(nanoseconds)));
+const hexOf = (gates) => gates.toString(16).padStart(2, "0");
+
+// The open classes of gates, in words.
+function openIn(gates) {
+  const open = [7, 6, 5, 4, 3, 2, 1, 0].filter((kind) => (gates >> kind) & 1);
+  return open.length ? `class ${open.join(", ")} open` : "all closed";
+}
+
+/** A strip over a text. What is changed by hand goes to `change`; before the first change of a move there is `begin`, and behind its last `end`. */
+export class Strip {
+  #lists = [];
+  #text = "";
+  #at = 0; // which of the lists is shown
+  #edge = 0; // the edge that is used
+  #held = null; // the edge that is dragged, or the gate that is pressed
+  #scale = null; // the nanoseconds that the strip shows, while an edge is dragged
+  #key = { edge: -1, time: 0 }; // the edge that a key moved last, and when
+
+  /**
+   * @param {HTMLElement} box with `.strip`, `.said` and the controls
+   * @param {{begin: () => void, change: (text: string, begin: number, end: number) => void, end: () => void}} calls
+   */
+  constructor(box, calls) {
+    this.box = box;
+    this.calls = calls;
+    [this.place, this.said, this.which, this.add, this.remove] = [".strip", ".said", "select", "[data-do=add]", "[data-do=remove]"].map((it) => box.querySelector(it));
+    this.svg = element("svg", { "aria-hidden": "true" });
+    this.place.append(this.svg);
+    this.place.addEventListener("pointerdown", (event) => this.#down(event));
+    this.place.addEventListener("pointermove", (event) => this.#move(event));
+    for (const name of ["pointerup", "pointercancel"]) this.place.addEventListener(name, (event) => this.#up(event));
+    this.place.addEventListener("keydown", (event) => this.#press(event));
+    this.place.addEventListener("focusin", ({ target }) => this.#use(this.#edges().indexOf(target)));
+    this.which.addEventListener("change", () => this.#choose(Number(this.which.value)));
+    this.add.addEventListener("click", () => this.#split());
+    this.remove.addEventListener("click", () => this.#drop());
+  }
+
+  /** Whether there is a gate list to show. */
+  get has() {
+    return this.#lists.length > 0;
+  }
+
+  get #list() {
+    return this.#lists[this.#at];
+  }
+
+  /** Shows the gate lists of a text; where a place in it lies in one of them, that one. */
+  show(text, place = -1) {
+    if (text === this.#text && place < 0) return;
+    this.#text = text;
+    this.#lists = gateListsIn(text);
+    const here = this.#lists.findIndex(({ begin, end }) => begin <= place && place <= end);
+    this.#at = here >= 0 ? here : Math.max(0, Math.min(this.#at, this.#lists.length - 1));
+    this.#fillWhich();
+    this.draw();
+  }
+
+  #fillWhich() {
+    this.which.replaceChildren(...this.#lists.map(({ number, device }, place) => new Option(`line ${number}${device ? `, ${device}` : ""}`, String(place))));
+    this.which.value = String(this.#at);
+    this.which.disabled = this.#lists.length < 2;
+  }
+
+  /** Shows the gate list of the command that begins in a line. */
+  showLine(number) {
+    const place = this.#lists.findIndex((it) => it.number === number);
+    if (place >= 0) this.#choose(place);
+  }
+
+  #choose(place) {
+    [this.#at, this.#edge] = [place, 0];
+    this.which.value = String(place);
+    this.draw();
+  }
+
+  #edges() {
+    return [...this.place.querySelectorAll(".edge")];
+  }
+
+  // The nanoseconds that the strip shows, and its pixels.
+  #shown() {
+    const { sum, cycle } = this.#list;
+    const whole = this.#scale ?? Math.max(cycle ?? sum * (1 + FREE), sum);
+    return { whole, wide: Math.max(1, this.place.clientWidth - LEFT - RIGHT) };
+  }
+
+  #xOf(moment) {
+    const { whole, wide } = this.#shown();
+    return LEFT + (moment / whole) * wide;
+  }
+
+  #momentAt(x) {
+    const { whole, wide } = this.#shown();
+    return ((x - LEFT) / wide) * whole;
+  }
+
+  #lanes() {
+    const most = this.#list.entries.reduce((all, it) => all | it.gates, 0);
+    return Math.max(this.#list.kinds ?? 8, 32 - Math.clz32(most));
+  }
+
+  /** Draws the strip anew, for its width and its list. */
+  draw() {
+    const list = this.#list;
+    this.box.classList.toggle("bad", Boolean(list?.fault));
+    for (const it of [this.add, this.remove]) it.disabled = !list || Boolean(list.fault);
+    if (!list || list.fault) {
+      this.#say(list ? `Line ${list.number}: ${list.fault}` : "");
+      for (const it of this.#edges()) it.ariaDisabled = "true";
+      return;
+    }
+    this.#edge = Math.min(this.#edge, list.entries.length - 1);
+    this.#drawLanes(list);
+    this.#placeEdges(list);
+    this.#tell();
+  }
+
+  #drawLanes({ entries, sum, cycle }) {
+    const [lanes, { whole, wide }] = [this.#lanes(), this.#shown()];
+    const [height, parts] = [lanes * LANE, []];
+    const end = cycle ?? sum;
+    for (let kind = 0; kind < lanes; kind += 1) {
+      const y = (lanes - 1 - kind) * LANE;
+      parts.push(element("rect", { class: "lane", x: LEFT, y, width: this.#xOf(end) - LEFT, height: LANE }));
+      for (const it of entries) if ((it.gates >> kind) & 1) parts.push(element("rect", { class: "open", x: this.#xOf(it.begin), y: y + 0.5, width: Math.max(0.5, this.#xOf(it.end) - this.#xOf(it.begin)), height: LANE - 1 }));
+      parts.push(element("text", { x: LEFT - 6, y: y + LANE - 1.5, class: "kind" }, kind));
+    }
+    if (end > sum) parts.push(element("rect", { class: "rest", x: this.#xOf(sum), y: 0, width: this.#xOf(end) - this.#xOf(sum), height }));
+    if (end < sum) parts.push(element("rect", { class: "cut", x: this.#xOf(end), y: 0, width: this.#xOf(sum) - this.#xOf(end), height }));
+    parts.push(element("path", { class: "cycle", d: `M${this.#xOf(end)} 0V${height + 4}` }));
+    for (const { at, text } of ticks({ from: 0n, to: inPicoseconds(whole) }, 0n, Math.max(2, Math.floor(wide / 130)))) parts.push(element("text", { class: "tick", x: this.#xOf(Number(at) / 1000), y: height + AXIS - 3 }, text));
+    this.svg.setAttribute("width", this.place.clientWidth);
+    this.svg.setAttribute("height", height + AXIS);
+    this.svg.replaceChildren(...parts);
+    this.place.style.height = `${height + AXIS}px`;
+  }
+
+  // An edge for each entry, where the entry ends. One that is used stays in the page, so that it keeps the focus.
+  #placeEdges(list) {
+    const height = `${this.#lanes() * LANE}px`;
+    const old = this.#edges();
+    const hadFocus = old.indexOf(document.activeElement) >= list.entries.length;
+    old.slice(list.entries.length).forEach((it) => it.remove());
+    list.entries.forEach((it, place) => {
+      const edge = old[place] ?? this.#newEdge();
+      edge.style.left = `${this.#xOf(it.end)}px`;
+      edge.style.height = height;
+      this.#label(edge, list, place);
+    });
+    if (hadFocus) this.#focus();
+  }
+
+  #newEdge() {
+    const edge = document.createElement("div");
+    edge.className = "edge";
+    edge.role = "slider";
+    edge.ariaOrientation = "horizontal";
+    edge.ariaRoleDescription = "edge";
+    this.place.append(edge);
+    return edge;
+  }
+
+  #label(edge, list, place) {
+    const it = list.entries[place];
+    const { least, most } = limitsOf(list, place);
+    edge.tabIndex = place === this.#edge ? 0 : -1;
+    edge.ariaDisabled = "false";
+    edge.setAttribute("aria-label", `End of entry ${place + 1} of ${list.entries.length}, gates ${hexOf(it.gates)}`);
+    [edge.ariaValueMin, edge.ariaValueMax, edge.ariaValueNow] = [least, most, it.end].map(String);
+    edge.ariaValueText = `${written(it.end)}: ${openIn(it.gates)} for ${written(it.interval)}`;
+    edge.classList.toggle("used", place === this.#edge);
+  }
+
+  #focus() {
+    this.#edges()[this.#edge]?.focus({ preventScroll: true });
+  }
+
+  #use(place) {
+    if (place < 0 || !this.#list || this.#list.fault) return;
+    this.#edge = place;
+    this.#edges().forEach((it, at) => {
+      it.tabIndex = at === place ? 0 : -1;
+      it.classList.toggle("used", at === place);
+    });
+    this.#tell();
+  }
+
+  #say(words) {
+    this.said.textContent = words;
+  }
+
+  // The numbers of the entry that is used, and of the cycle.
+  #tell() {
+    const { entries, sum, cycle } = this.#list;
+    const it = entries[this.#edge];
+    const after = cycle === null ? "the sum" : cycle === sum ? "as given" : cycle > sum ? `as given: the last gates stay for ${written(cycle - sum)} more` : `as given: ${written(sum - cycle)} of the entries are cut`;
+    this.#say(`Entry ${this.#edge + 1} of ${entries.length}: ${hexOf(it.gates)}, ${written(it.begin)} to ${written(it.end)} (${it.interval.toLocaleString("en")} ns). Cycle ${written(cycle ?? sum)}, ${after}.`);
+  }
+
+  // Puts a change into the text, and shows what it comes to.
+  #change(changes) {
+    const { text, begin, end } = patched(this.#text, changes);
+    this.#text = text;
+    this.#lists = gateListsIn(text);
+    this.draw();
+    this.calls.change(text, begin, end);
+  }
+
+  // A change that is a move of its own.
+  #once(made) {
+    if (made.refused) {
+      this.#say(made.refused);
+      return;
+    }
+    this.#key.edge = -1;
+    this.calls.begin();
+    this.#change(made.changes);
+    this.calls.end();
+  }
+
+  #split() {
+    this.#once(splitEntry(this.#text, this.#list, this.#edge));
+  }
+
+  #drop() {
+    this.#once(removedEntry(this.#list, this.#edge));
+  }
+
+  #toggle(place, kind) {
+    this.#edge = place;
+    this.#once({ changes: toggledGate(this.#list, place, kind) });
+  }
+
+  // 1. By the pointer
+
+  #down(event) {
+    if (!this.#list || this.#list.fault || event.button !== 0) return;
+    const [x, y] = this.#placeOf(event);
+    const edge = this.#nearest(x, event.pointerType === "touch" ? FINGER_REACH : REACH);
+    event.preventDefault();
+    this.place.setPointerCapture(event.pointerId);
+    if (edge === null) {
+      this.#held = { x, y };
+      return;
+    }
+    this.#use(edge);
+    this.#focus();
+    this.#scale = this.#shown().whole;
+    this.#held = { edge, off: x - this.#xOf(this.#list.entries[edge].end), begun: false };
+  }
+
+  #placeOf(event) {
+    const { left, top } = this.place.getBoundingClientRect();
+    return [event.clientX - left, event.clientY - top];
+  }
+
+  // The edge that is nearest, if the pointer is not well within an entry; of several at one place that which can be moved to the side of the pointer.
+  #nearest(x, near) {
+    const far = this.#list.entries.map((it) => Math.abs(this.#xOf(it.end) - x));
+    const least = Math.min(...far);
+    const here = this.#list.entries.find((it) => x < this.#xOf(it.end));
+    const wide = here ? this.#xOf(here.end) - this.#xOf(here.begin) : Infinity;
+    if (least > Math.max(STIRRED, Math.min(near, wide / 3))) return null;
+    const all = far.flatMap((it, place) => (it <= least + 1 ? [place] : []));
+    return x < this.#xOf(this.#list.entries[all[0]].end) ? all[0] : all.at(-1);
+  }
+
+  #move(event) {
+    const held = this.#held;
+    if (!held) return;
+    const [x, y] = this.#placeOf(event);
+    if (held.edge === undefined) {
+      if (Math.hypot(x - held.x, y - held.y) > STIRRED) held.stirred = true;
+      return;
+    }
+    const moment = snapped(this.#list, held.edge, this.#momentAt(x - held.off), event.shiftKey);
+    if (moment === null || moment === this.#list.entries[held.edge].end) return;
+    if (!held.begun) this.calls.begin();
+    held.begun = true;
+    this.#change(movedEdge(this.#list, held.edge, moment));
+  }
+
+  #up(event) {
+    const held = this.#held;
+    [this.#held, this.#scale] = [null, null];
+    if (!held || !this.#list || this.#list.fault) return;
+    this.draw();
+    if (held.edge === undefined) {
+      if (!held.stirred && event.type === "pointerup") this.#click(held);
+    } else if (held.begun) this.calls.end();
+  }
+
+  // A click opens or closes the gate that lies there.
+  #click({ x, y }) {
+    const [moment, lanes] = [this.#momentAt(x), this.#lanes()];
+    const place = this.#list.entries.findIndex((it) => it.begin <= moment && moment < it.end);
+    const kind = lanes - 1 - Math.floor(y / LANE);
+    if (place >= 0 && kind >= 0 && kind < lanes) this.#toggle(place, kind);
+  }
+
+  // 2. By keys
+
+  #press(event) {
+    if (!this.#list || this.#list.fault || event.ctrlKey || event.metaKey || event.altKey) return;
+    const side = { ArrowLeft: -1, ArrowDown: -1, ArrowRight: 1, ArrowUp: 1 }[event.key];
+    const walk = { PageUp: this.#edge - 1, PageDown: this.#edge + 1, Home: 0, End: Infinity }[event.key];
+    if (side) this.#step(side, event.shiftKey);
+    else if (walk !== undefined) this.#walk(walk);
+    else if (event.key === "Insert") this.#split();
+    else if (event.key === "Delete") this.#drop();
+    else if (/^[0-7]$/.test(event.key) && Number(event.key) < this.#lanes()) this.#toggle(this.#edge, Number(event.key));
+    else return;
+    event.preventDefault();
+  }
+
+  #walk(place) {
+    this.#use(Math.max(0, Math.min(this.#list.entries.length - 1, place)));
+    this.#focus();
+  }
+
+  // Moves the edge a step; keys that follow at once are one move.
+  #step(side, fine) {
+    const moment = stepOf(this.#list, this.#edge, side, fine);
+    if (moment === null) {
+      this.#say(`The edge can't go farther ${side > 0 ? "right" : "left"}${fine ? "" : " by a microsecond; with Shift it goes by a nanosecond"}.`);
+      return;
+    }
+    const now = performance.now();
+    if (this.#key.edge !== this.#edge || now - this.#key.time > JOINED) this.calls.begin();
+    this.#key = { edge: this.#edge, time: now };
+    this.#change(movedEdge(this.#list, this.#edge, moment));
+  }
+}
