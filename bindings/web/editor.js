@@ -18,8 +18,12 @@ export class Editor {
   #count = 0; // how many are shown
   #put = ""; // what was put into the textarea last
 
-  /** @param {HTMLElement} box */
-  constructor(box) {
+  /**
+   * @param {HTMLElement} box
+   * @param {(text: string) => string | null} taken what goes in where a text is pasted; null where nothing does
+   */
+  constructor(box, taken) {
+    this.taken = taken;
     this.area = box.querySelector("textarea");
     this.numbers = box.querySelector(".numbers");
     this.mark = box.querySelector(".mark");
@@ -64,6 +68,13 @@ export class Editor {
   change(text, begin, end) {
     this.#exchange(text, begin, end);
     this.#reveal(begin, end);
+  }
+
+  /** Lines as they go in where the cursor stands, apart from what stands before and behind it. */
+  apart(lines) {
+    const { value, selectionStart: begin, selectionEnd: end } = this.area;
+    const before = begin > 0 && value[begin - 1] !== "\n" ? "\n" : "";
+    return before + (value[end] === "\n" ? lines.replace(/\n$/, "") : lines);
   }
 
   /** What the page put in last, before it was typed in. */
@@ -152,10 +163,12 @@ export class Editor {
   }
 
   #paste(event) {
-    const text = (event.clipboardData?.getData("text/plain") ?? "").replace(/\r\n?/g, "\n");
-    if (this.#held ? !this.whole : text.length < LONG_PASTE) return;
+    const pasted = (event.clipboardData?.getData("text/plain") ?? "").replace(/\r\n?/g, "\n");
+    if (this.#held && !this.whole) return;
+    const text = this.taken(pasted);
+    if (!this.#held && text === pasted && text.length < LONG_PASTE) return;
     event.preventDefault();
-    this.#replace(text, this.area.selectionStart, this.area.selectionEnd);
+    if (text !== null) this.#replace(text, this.area.selectionStart, this.area.selectionEnd);
   }
 
   #copy(event) {

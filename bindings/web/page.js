@@ -19,6 +19,8 @@ import { dateOf, endOfRun, notYet, originOf, setClock, windowOf } from "./happen
 import { count } from "./words.js";
 import { Inputs } from "./inputs.js";
 import { Strip } from "./strip.js";
+import { BadSchedule } from "./documents.js";
+import { FORMS, formOf, importedFrom } from "./imports.js";
 import { jobOf, kindOf, recordsOf, scriptOfReplay } from "./captures.js";
 import { STEPS } from "./gallery.js";
 import { INSTEAD, lacking } from "./support.js";
@@ -48,11 +50,11 @@ const examples = JSON.parse(at("page-examples").textContent);
 const octetsIn = (base64) => Uint8Array.from(atob(base64), (it) => it.charCodeAt(0));
 const encoded = (text) => new TextEncoder().encode(text);
 const runner = new Runner(at("page-worker").textContent, octetsIn(at("page-wasm").textContent));
-const editor = new Editor(at("editor"));
-const beside = new Editor(at("beside-editor"));
-const other = new Editor(at("other-editor")); // the schedule that is compared with that of the input
+const editor = new Editor(at("editor"), (text) => takePasted(editor, text));
+const beside = new Editor(at("beside-editor"), (text) => takePasted(beside, text));
+const other = new Editor(at("other-editor"), (text) => takePasted(other, text)); // the schedule that is compared with that of the input
 const editors = [editor, beside, other];
-const strip = new Strip(at("gates"), { begin: () => noteGates(), change: (...words) => putGates(...words), end: () => endGates() });
+const strip = new Strip(at("gates"), { begin: () => noteGates(), change: (...words) => putGates(...words), end: () => endGates(), choose: (line) => chooseSchedule(line) });
 
 const inputs = new Inputs();
 const past = []; // what stood in the page before another text took its place, for Ctrl+Z
@@ -713,7 +715,9 @@ async function takeOwn(mine, answers) {
 }
 
 function fillWhich(names) {
+  const before = Number(at("which").value) || 0;
   at("which").replaceChildren(...names.map((name, place) => new Option(name, String(place))));
+  at("which").value = String(before < names.length ? before : 0);
 }
 
 // Whether what is shown stays where what was typed has a fault: unless it is of two runs, of which the newer one was stopped before its picture came.
@@ -1039,9 +1043,18 @@ function showGates() {
   if (open) strip.draw();
 }
 
+// The picture of a check shows the schedule whose gates are chosen.
+function chooseSchedule(line) {
+  const place = ran?.job === "check" ? ran.schedules.findIndex((it) => it.number === line) : -1;
+  if (place < 0) return;
+  at("which").value = String(place);
+  at("which").dispatchEvent(new Event("change"));
+}
+
 function openGates() {
   gatesOpen = !gatesOpen;
   showGates();
+  if (gatesOpen) at("gates").scrollIntoView({ block: "nearest" });
 }
 
 // Notes what stands in the page before gates are changed by hand, so that Ctrl+Z brings it back; and what stood there before it was typed in.
@@ -1079,7 +1092,45 @@ function endGates() {
   runAll(true);
 }
 
-// 7. What stands in the page
+// 7. Schedules of other forms
+
+// Says of what was pasted or dropped what it is, and as what it is read.
+function sayRead(words, isFault = false) {
+  at("read-as").hidden = !words;
+  at("read-as").textContent = words;
+  at("read-as").classList.toggle("fault", isFault);
+}
+
+// The schedules of a text of another form as tc lines, or null where it can't be read; it is said either way.
+function importOf(text, form, where) {
+  try {
+    const { lines, notes } = importedFrom(text, form);
+    const left = notes.map((it) => it.replace(/ \(--side .*\)$/, ""));
+    sayRead([`This is ${FORMS[form]}: read as ${count(lines.length, "tc line")}${where}.`, ...left.map((it) => `Note: ${it}.`)].join(" "));
+    return lines.map((it) => `${it}\n`).join("");
+  } catch (error) {
+    if (!(error instanceof BadSchedule)) throw error;
+    sayRead(`This is ${FORMS[form]}, and can't be read. ${error.message[0].toUpperCase()}${error.message.slice(1)}. What stood here stays.`, true);
+    return null;
+  }
+}
+
+// What goes into a field where a text is pasted; null where nothing does. Schedules of other forms go in as tc lines, and from a table of streams
+// beside it.
+function takePasted(part, text) {
+  sayRead("");
+  const form = formOf(text, false);
+  if (!form) return text;
+  const isTable = part !== other && part !== scheduleEditor();
+  const lines = importOf(text, form, isTable ? ", in the place of the tc lines of the other field" : "");
+  if (lines === null || !isTable) return lines && part.apart(lines);
+  notePast();
+  scheduleEditor().text = withSchedule(scheduleEditor().text, lines);
+  becomeOwn();
+  return null;
+}
+
+// 8. What stands in the page
 
 // What is shown is of another text or of other options than stand there now; a fault, too.
 function setStale(is, words = "Changed since this was run, and too long to be run while you type. Run it (Ctrl+Enter in the text).") {
@@ -1119,6 +1170,8 @@ function load(state) {
   setCapture(state.octets ?? octetsIn(state.capture ?? ""), state.name);
   at("link-row").hidden = true;
   at("long-link").hidden = true;
+  at("which").replaceChildren();
+  sayRead("");
   return runAll();
 }
 
@@ -1377,8 +1430,17 @@ async function takeChosen() {
   at("file").value = "";
 }
 
+// The text of a file, or null where it has a schedule that can't be read.
+function textOf(octets) {
+  const text = new TextDecoder().decode(octets);
+  const form = formOf(text, true);
+  return form ? importOf(text, form, "") : text;
+}
+
 // Takes a file by what its octets are.
 async function takeFile(file) {
+  sayRead("");
+  at("which").replaceChildren();
   const octets = new Uint8Array(await file.arrayBuffer());
   const kind = kindOf(octets);
   if (kind.kind === "other") {
@@ -1393,7 +1455,8 @@ async function takeFile(file) {
     if (FRAME_LINE.test(editor.text)) editor.text = editor.text.split("\n").filter((it) => !FRAME_LINE.test(it)).join("\n");
     at("until").value = "";
   } else {
-    const text = new TextDecoder().decode(octets);
+    const text = textOf(octets);
+    if (text === null) return;
     const name = jobOf(text, job());
     const part = name === "bounds" && STREAM_LINE.test(text) ? beside : editor;
     beginAnother();
@@ -1517,7 +1580,10 @@ function listenToResults() {
   at("origin").addEventListener("change", () => ran && (layPicture(), showTables()));
   at("which").addEventListener("change", () => begin(async (mine) => {
     forgetTime();
-    if (ran.job === "check") await takeSchedule(mine);
+    if (ran.job === "check") {
+      strip.showLine(ran.schedules[Number(at("which").value) || 0].number);
+      await takeSchedule(mine);
+    }
     fillOrigins(ran);
     showTables();
     if (ran.job === "bounds") sayVerdict("");

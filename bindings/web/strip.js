@@ -5,6 +5,9 @@ import { LEFT, RIGHT } from "./sizes.js";
 import { element } from "./svg.js";
 
 const LANE = 10; // pixels of a class
+const HIGH_LANE = 16; // and where there are few
+const FEW = 4;
+const DENSE = 20; // pixels of an entry, below which its edge has no handle
 const AXIS = 14; // and of what stands below them
 const REACH = 12; // pixels from an edge at which it is taken
 const FINGER_REACH = 22; // and by a finger
@@ -34,7 +37,8 @@ export class Strip {
 
   /**
    * @param {HTMLElement} box with `.strip`, `.said` and the controls
-   * @param {{begin: () => void, change: (text: string, begin: number, end: number) => void, end: () => void}} calls
+   * @param {{begin: () => void, change: (text: string, begin: number, end: number) => void, end: () => void, choose: (line: number) => void}} calls
+   *   `choose` is told the line of a gate list that is chosen
    */
   constructor(box, calls) {
     this.box = box;
@@ -47,7 +51,10 @@ export class Strip {
     for (const name of ["pointerup", "pointercancel"]) this.place.addEventListener(name, (event) => this.#up(event));
     this.place.addEventListener("keydown", (event) => this.#press(event));
     this.place.addEventListener("focusin", ({ target }) => this.#use(this.#edges().indexOf(target)));
-    this.which.addEventListener("change", () => this.#choose(Number(this.which.value)));
+    this.which.addEventListener("change", () => {
+      this.#choose(Number(this.which.value));
+      this.calls.choose(this.#list.number);
+    });
     this.add.addEventListener("click", () => this.#split());
     this.remove.addEventListener("click", () => this.#drop());
   }
@@ -116,6 +123,11 @@ export class Strip {
     return Math.max(this.#list.kinds ?? 8, 32 - Math.clz32(most));
   }
 
+  // The pixels of a class.
+  #lane() {
+    return this.#lanes() <= FEW ? HIGH_LANE : LANE;
+  }
+
   /** Draws the strip anew, for its width and its list. */
   draw() {
     const list = this.#list;
@@ -133,14 +145,14 @@ export class Strip {
   }
 
   #drawLanes({ entries, sum, cycle }) {
-    const [lanes, { whole, wide }] = [this.#lanes(), this.#shown()];
-    const [height, parts] = [lanes * LANE, []];
+    const [lanes, lane, { whole, wide }] = [this.#lanes(), this.#lane(), this.#shown()];
+    const [height, parts] = [lanes * lane, []];
     const end = cycle ?? sum;
     for (let kind = 0; kind < lanes; kind += 1) {
-      const y = (lanes - 1 - kind) * LANE;
-      parts.push(element("rect", { class: "lane", x: LEFT, y, width: this.#xOf(end) - LEFT, height: LANE }));
-      for (const it of entries) if ((it.gates >> kind) & 1) parts.push(element("rect", { class: "open", x: this.#xOf(it.begin), y: y + 0.5, width: Math.max(0.5, this.#xOf(it.end) - this.#xOf(it.begin)), height: LANE - 1 }));
-      parts.push(element("text", { x: LEFT - 6, y: y + LANE - 1.5, class: "kind" }, kind));
+      const y = (lanes - 1 - kind) * lane;
+      parts.push(element("rect", { class: "lane", x: LEFT, y, width: this.#xOf(end) - LEFT, height: lane }));
+      for (const it of entries) if ((it.gates >> kind) & 1) parts.push(element("rect", { class: "open", x: this.#xOf(it.begin), y: y + 0.5, width: Math.max(0.5, this.#xOf(it.end) - this.#xOf(it.begin)), height: lane - 1 }));
+      parts.push(element("text", { x: LEFT - 6, y: y + lane / 2 + 4, class: "kind" }, kind));
     }
     if (end > sum) parts.push(element("rect", { class: "rest", x: this.#xOf(sum), y: 0, width: this.#xOf(end) - this.#xOf(sum), height }));
     if (end < sum) parts.push(element("rect", { class: "cut", x: this.#xOf(end), y: 0, width: this.#xOf(sum) - this.#xOf(end), height }));
@@ -154,7 +166,8 @@ export class Strip {
 
   // An edge for each entry, where the entry ends. One that is used stays in the page, so that it keeps the focus.
   #placeEdges(list) {
-    const height = `${this.#lanes() * LANE}px`;
+    const height = `${this.#lanes() * this.#lane()}px`;
+    this.place.classList.toggle("dense", this.#shown().wide < DENSE * list.entries.length);
     const old = this.#edges();
     const hadFocus = old.indexOf(document.activeElement) >= list.entries.length;
     old.slice(list.entries.length).forEach((it) => it.remove());
@@ -311,7 +324,7 @@ export class Strip {
   #click({ x, y }) {
     const [moment, lanes] = [this.#momentAt(x), this.#lanes()];
     const place = this.#list.entries.findIndex((it) => it.begin <= moment && moment < it.end);
-    const kind = lanes - 1 - Math.floor(y / LANE);
+    const kind = lanes - 1 - Math.floor(y / this.#lane());
     if (place >= 0 && kind >= 0 && kind < lanes) this.#toggle(place, kind);
   }
 
