@@ -54,7 +54,7 @@ const editor = new Editor(at("editor"), (text) => takePasted(editor, text));
 const beside = new Editor(at("beside-editor"), (text) => takePasted(beside, text));
 const other = new Editor(at("other-editor"), (text) => takePasted(other, text)); // the schedule that is compared with that of the input
 const editors = [editor, beside, other];
-const strip = new Strip(at("gates"), { begin: () => noteGates(), change: (...words) => putGates(...words), end: () => endGates(), choose: (line) => chooseSchedule(line) });
+const strip = new Strip(at("gates"), { begin: (source) => noteGates(source), change: (...words) => putGates(...words), end: () => endGates(), choose: (...words) => chooseSchedule(...words) });
 
 const inputs = new Inputs();
 const past = []; // what stood in the page before another text took its place, for Ctrl+Z
@@ -996,6 +996,7 @@ function showOtherField(open) {
   const has = COMPARED.includes(jobShown);
   at("other-field").hidden = !has || !open;
   at("compare").hidden = !has || open;
+  showGates();
 }
 
 function openCompare() {
@@ -1026,14 +1027,20 @@ function endCompare() {
 // The editor whose text has the schedules.
 const scheduleEditor = () => (job() === "streams" ? beside : editor);
 
-// Whether the strip is open: where there is much room it is at first.
-let gatesOpen = matchMedia("(min-width: 60.01rem)").matches;
+// The editors whose gates are changed by hand: that one, and that of the other schedule where it is open.
+const gateEditors = () => (at("other-field").hidden ? [scheduleEditor()] : [scheduleEditor(), other]);
+
+// Whether the strip is open: as it was chosen, and else where there is much room.
+const muchRoom = matchMedia("(min-width: 60.01rem)");
+let gatesChosen = null;
+const gatesOpen = () => gatesChosen ?? muchRoom.matches;
 
 // Shows the gate lists of what stands in the page: that in which the cursor stands, where a text is typed.
 function showGates() {
-  const part = scheduleEditor();
-  strip.show(part.isHeld ? "" : part.text, document.activeElement === part.area ? part.area.selectionStart : -1);
-  const open = strip.has && gatesOpen;
+  const parts = gateEditors();
+  const source = parts.findIndex((it) => it.area === document.activeElement);
+  strip.show(parts.map((it) => (it.isHeld ? "" : it.text)), source < 0 ? null : { source, place: parts[source].area.selectionStart });
+  const open = strip.has && gatesOpen();
   at("edit-gates").hidden = !strip.has;
   at("edit-gates").setAttribute("aria-expanded", String(open));
   at("edit-gates").textContent = open ? "Hide the gates" : "Gates by hand";
@@ -1044,31 +1051,31 @@ function showGates() {
 }
 
 // The picture of a check shows the schedule whose gates are chosen.
-function chooseSchedule(line) {
-  const place = ran?.job === "check" ? ran.schedules.findIndex((it) => it.number === line) : -1;
+function chooseSchedule(source, line) {
+  const place = ran?.job === "check" && !source ? ran.schedules.findIndex((it) => it.number === line) : -1;
   if (place < 0) return;
   at("which").value = String(place);
   at("which").dispatchEvent(new Event("change"));
 }
 
 function openGates() {
-  gatesOpen = !gatesOpen;
+  gatesChosen = !gatesOpen();
   showGates();
-  if (gatesOpen) at("gates").scrollIntoView({ block: "nearest" });
+  if (gatesChosen) at("gates").scrollIntoView({ block: "nearest" });
 }
 
 // Notes what stands in the page before gates are changed by hand, so that Ctrl+Z brings it back; and what stood there before it was typed in.
-function noteGates() {
-  const part = scheduleEditor();
+function noteGates(source) {
+  const part = gateEditors()[source];
   const typed = part.fresh ? null : part.put;
   notePast();
-  if (typed !== null) past.splice(-1, 0, { ...past.at(-1), [part === beside ? "beside" : "text"]: typed });
+  if (typed !== null) past.splice(-1, 0, { ...past.at(-1), [["text", "beside", "other"][editors.indexOf(part)]]: typed });
 }
 
 // Puts a text with other gates into the page, and runs it: one run after the other, each of the newest text.
-function putGates(text, begin, end) {
+function putGates(source, text, begin, end) {
   document.body.classList.add("moving");
-  scheduleEditor().change(text, begin, end);
+  gateEditors()[source].change(text, begin, end);
   becomeOwn();
   if (isShort()) runMoved();
   else document.body.classList.remove("moving");
@@ -1608,6 +1615,7 @@ function listen() {
   addEventListener("resize", () => {
     if (innerWidth === width) return;
     width = innerWidth;
+    showGates();
     strip.draw();
     runPicture();
   });

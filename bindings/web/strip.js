@@ -25,10 +25,13 @@ function openIn(gates) {
   return open.length ? `class ${open.join(", ")} open` : "all closed";
 }
 
-/** A strip over a text. What is changed by hand goes to `change`; before the first change of a move there is `begin`, and behind its last `end`. */
+/**
+ * A strip over texts, one of whose gate lists it shows. What is changed by hand goes to `change`; before the first change of a move there is `begin`,
+ * and behind its last `end`.
+ */
 export class Strip {
-  #lists = [];
-  #text = "";
+  #lists = []; // those of all texts
+  #texts = [];
   #at = 0; // which of the lists is shown
   #edge = 0; // the edge that is used
   #held = null; // the edge that is dragged, or the gate that is pressed
@@ -37,8 +40,8 @@ export class Strip {
 
   /**
    * @param {HTMLElement} box with `.strip`, `.said` and the controls
-   * @param {{begin: () => void, change: (text: string, begin: number, end: number) => void, end: () => void, choose: (line: number) => void}} calls
-   *   `choose` is told the line of a gate list that is chosen
+   * @param {{begin: (source: number) => void, change: (source: number, text: string, begin: number, end: number) => void, end: () => void,
+   *   choose: (source: number, line: number) => void}} calls `source` is the number of a text; `choose` is told the line of a gate list that is chosen
    */
   constructor(box, calls) {
     this.box = box;
@@ -53,7 +56,7 @@ export class Strip {
     this.place.addEventListener("focusin", ({ target }) => this.#use(this.#edges().indexOf(target)));
     this.which.addEventListener("change", () => {
       this.#choose(Number(this.which.value));
-      this.calls.choose(this.#list.number);
+      this.calls.choose(this.#list.source, this.#list.number);
     });
     this.add.addEventListener("click", () => this.#split());
     this.remove.addEventListener("click", () => this.#drop());
@@ -68,26 +71,38 @@ export class Strip {
     return this.#lists[this.#at];
   }
 
-  /** Shows the gate lists of a text; where a place in it lies in one of them, that one. */
-  show(text, place = -1) {
-    if (text === this.#text && place < 0) return;
-    this.#text = text;
-    this.#lists = gateListsIn(text);
-    const here = this.#lists.findIndex(({ begin, end }) => begin <= place && place <= end);
+  /**
+   * Shows a gate list of texts: that in which the cursor stands, or else that of the same place as before.
+   *
+   * @param {string[]} texts
+   * @param {{source: number, place: number} | null} cursor
+   */
+  show(texts, cursor = null) {
+    const same = texts.length === this.#texts.length && texts.every((it, place) => it === this.#texts[place]);
+    if (same && !cursor) return;
+    this.#take(texts);
+    this.#key.edge = -1;
+    const here = cursor ? this.#lists.findIndex(({ source, begin, end }) => source === cursor.source && begin <= cursor.place && cursor.place <= end) : -1;
     this.#at = here >= 0 ? here : Math.max(0, Math.min(this.#at, this.#lists.length - 1));
     this.#fillWhich();
     this.draw();
   }
 
+  #take(texts) {
+    this.#texts = texts;
+    this.#lists = texts.flatMap((text, source) => gateListsIn(text).map((it) => ({ ...it, source })));
+  }
+
   #fillWhich() {
-    this.which.replaceChildren(...this.#lists.map(({ number, device }, place) => new Option(`line ${number}${device ? `, ${device}` : ""}`, String(place))));
+    const named = ({ number, device, source }) => `${source ? "other schedule, " : ""}line ${number}${device ? `, ${device}` : ""}`;
+    this.which.replaceChildren(...this.#lists.map((it, place) => new Option(named(it), String(place))));
     this.which.value = String(this.#at);
     this.which.disabled = this.#lists.length < 2;
   }
 
-  /** Shows the gate list of the command that begins in a line. */
+  /** Shows the gate list of the command that begins in a line of the first text. */
   showLine(number) {
-    const place = this.#lists.findIndex((it) => it.number === number);
+    const place = this.#lists.findIndex((it) => it.source === 0 && it.number === number);
     if (place >= 0) this.#choose(place);
   }
 
@@ -215,7 +230,9 @@ export class Strip {
     this.#tell();
   }
 
-  #say(words) {
+  // (what is told of an edge its own words say, too: a reader hears only why nothing is done)
+  #say(words, isRefusal = false) {
+    this.said.ariaLive = isRefusal ? "polite" : "off";
     this.said.textContent = words;
   }
 
@@ -229,27 +246,31 @@ export class Strip {
 
   // Puts a change into the text, and shows what it comes to.
   #change(changes) {
-    const { text, begin, end } = patched(this.#text, changes);
-    this.#text = text;
-    this.#lists = gateListsIn(text);
+    const { source } = this.#list;
+    const { text, begin, end } = patched(this.#texts[source], changes);
+    this.#take(this.#texts.with(source, text));
     this.draw();
-    this.calls.change(text, begin, end);
+    this.calls.change(source, text, begin, end);
+  }
+
+  #begin() {
+    this.calls.begin(this.#list.source);
   }
 
   // A change that is a move of its own.
   #once(made) {
     if (made.refused) {
-      this.#say(made.refused);
+      this.#say(made.refused, true);
       return;
     }
     this.#key.edge = -1;
-    this.calls.begin();
+    this.#begin();
     this.#change(made.changes);
     this.calls.end();
   }
 
   #split() {
-    this.#once(splitEntry(this.#text, this.#list, this.#edge));
+    this.#once(splitEntry(this.#texts[this.#list.source], this.#list, this.#edge));
   }
 
   #drop() {
@@ -305,7 +326,7 @@ export class Strip {
     }
     const moment = snapped(this.#list, held.edge, this.#momentAt(x - held.off), event.shiftKey);
     if (moment === null || moment === this.#list.entries[held.edge].end) return;
-    if (!held.begun) this.calls.begin();
+    if (!held.begun) this.#begin();
     held.begun = true;
     this.#change(movedEdge(this.#list, held.edge, moment));
   }
@@ -352,11 +373,11 @@ export class Strip {
   #step(side, fine) {
     const moment = stepOf(this.#list, this.#edge, side, fine);
     if (moment === null) {
-      this.#say(`The edge can't go farther ${side > 0 ? "right" : "left"}${fine ? "" : " by a microsecond; with Shift it goes by a nanosecond"}.`);
+      this.#say(`The edge can't go farther ${side > 0 ? "right" : "left"}${fine ? "" : " by a microsecond; with Shift it goes by a nanosecond"}.`, true);
       return;
     }
     const now = performance.now();
-    if (this.#key.edge !== this.#edge || now - this.#key.time > JOINED) this.calls.begin();
+    if (this.#key.edge !== this.#edge || now - this.#key.time > JOINED) this.#begin();
     this.#key = { edge: this.#edge, time: now };
     this.#change(movedEdge(this.#list, this.#edge, moment));
   }
