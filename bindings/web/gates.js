@@ -1,8 +1,7 @@
 // The gate lists of tc lines: where their entries stand in the text, and what is changed of it where one is changed by hand.
 
-/** The most entries of a gate list, and the longest interval, in nanoseconds. */
-export const MOST_ENTRIES = 256;
-const LONGEST = 2 ** 32 - 1;
+const MOST_ENTRIES = 256; // of a gate list
+const LONGEST = 2 ** 32 - 1; // nanoseconds of an interval
 const GRID = 1000; // nanoseconds that an edge is moved by, unless it is moved finely
 
 // The logical lines of a text, each with its number and where it begins and ends: a backslash before the end of a line takes the next one into it.
@@ -55,9 +54,18 @@ function entryAt(words, place) {
   return kind?.word === "S" && gates !== null && interval !== null ? { gates, interval, head, mask, time, before: words[place - 1] } : null;
 }
 
-// What the word behind an option says, or null.
-const valueOf = (words, option) => words[words.findIndex(({ word }) => word === option) + 1]?.word ?? null;
-const optionOf = (words, option) => (words.some(({ word }) => word === option) ? valueOf(words, option) : null);
+// The word behind an option, or null.
+function optionOf(words, option) {
+  const place = words.findIndex(({ word }) => word === option);
+  return place < 0 ? null : words[place + 1]?.word ?? null;
+}
+
+// What can't be read of entries, or nothing.
+function faultOf(entries) {
+  const bad = entries.indexOf(null);
+  if (bad >= 0) return `sched-entry ${bad + 1} can't be read: S, gates such as 01 and nanoseconds are expected.`;
+  return entries.length > MOST_ENTRIES ? `It has ${entries.length} entries, and ${MOST_ENTRIES} is the most.` : "";
+}
 
 // The gate list of a command, or null where it is none: its entries begin and end at nanoseconds from the cycle's beginning.
 function listOf(text, line) {
@@ -68,13 +76,11 @@ function listOf(text, line) {
   const heads = behind.flatMap(({ word }, place) => (word === "sched-entry" ? [place] : []));
   if (!heads.length) return null;
   const entries = heads.map((place) => entryAt(behind, place));
-  const bad = entries.findIndex((it) => it === null);
   let end = 0;
   for (const it of entries) if (it) [it.begin, it.end] = [end, (end += it.interval)];
   const cycle = optionOf(behind, "cycle-time");
-  const fault = bad >= 0 ? `sched-entry ${bad + 1} can't be read: S, gates such as 01 and nanoseconds are expected.` : entries.length > MOST_ENTRIES ? `It has ${entries.length} entries, and ${MOST_ENTRIES} is the most.` : "";
   const kinds = numberOf(optionOf(behind, "num_tc"), /^[0-9]+$/, 10, 1, 8);
-  return { ...line, device: head.device, entries, sum: end, cycle: /^[0-9]+$/.test(cycle ?? "") && Number(cycle) > 0 ? Number(cycle) : null, kinds, fault };
+  return { ...line, device: head.device, entries, sum: end, cycle: /^[0-9]+$/.test(cycle ?? "") && Number(cycle) > 0 ? Number(cycle) : null, kinds, fault: faultOf(entries) };
 }
 
 /**

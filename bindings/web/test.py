@@ -1017,9 +1017,17 @@ def try_gates(page):
     page.same("edges", page.do(EDGES), [12303, 112303])
     page.same("numbers beside them", page.text("gates-said"), "Entry 1 of 2: 81, 0 to 12.303 us (12,303 ns). Cycle 112.303 us, the sum.")
     page.same("without a name", page.do(NAMELESS), [])
+    page.same("one of them is reached by Tab", page.do("return [...document.querySelectorAll('#gates .edge')].map((it) => it.tabIndex)"), [0, -1])
     said = page.text("verdict")
     page.do(COUNTED)
     (x, y), (last, _) = edge(page, 0), edge(page, 1)
+    for what, wanted in (("a click opens the gate of class 6", text.replace("S 00 100000", "S 40 100000")), ("and closes it", text)):
+        # (the sentence of the example goes, and what is below it moves up)
+        place = (x + last) / 2, page.do("return document.querySelector('#gates .strip').getBoundingClientRect().top") + 15
+        page.browser.drag(place, place)
+        gates_text(page, what, wanted)
+    page.choose("schedule.script")
+    x, y = edge(page, 0)
     per = (last - x) / 100_000
     page.browser.mouse("down", (x, y))
     for moved in range(1, 30):
