@@ -833,8 +833,10 @@ frame 3 16 1514
 clock 420000000
 """
 LABELS = "return [...document.querySelectorAll('#canvas text')].map((it) => it.textContent).filter((it) => /^(class .|wire)$/.test(it)).sort().reverse()"
-# The parts of the legend that lie outside of the picture, or on one another.
-CUT = """const box = document.querySelector('#canvas svg').getBoundingClientRect(); const parts = [...document.querySelectorAll('#canvas .legend')].map((it) => it.getBoundingClientRect());
+# The parts of the legend that lie outside of the picture, or on one another: by their shapes, since Firefox 153 takes what strokes could reach, too.
+CUT = """const box = document.querySelector('#canvas svg').getBoundingClientRect();
+    const placed = (it) => { const [r, m] = [it.getBBox(), it.getScreenCTM()]; return { left: m.a * r.x + m.e, right: m.a * (r.x + r.width) + m.e, top: m.d * r.y + m.f, bottom: m.d * (r.y + r.height) + m.f }; };
+    const parts = [...document.querySelectorAll('#canvas .legend')].map(placed);
     const frame = document.getElementById('frame').getBoundingClientRect(); const right = Math.min(box.right, frame.right);
     return [parts.length, parts.filter((it, place) => it.left < box.left || it.right > right || it.bottom > box.bottom || it.top < box.top
       || parts.some((other, at) => at < place && other.left < it.right && it.left < other.right && other.top < it.bottom - 2 && it.top < other.bottom - 2)).length]"""
