@@ -1045,9 +1045,7 @@ function showGates() {
   at("edit-gates").setAttribute("aria-expanded", String(open));
   at("edit-gates").textContent = open ? "Hide the gates" : "Gates by hand";
   at("gates-hint").hidden = !open;
-  if (at("gates").hidden === !open) return;
   at("gates").hidden = !open;
-  if (open) strip.draw();
 }
 
 // The picture of a check shows the schedule whose gates are chosen.
@@ -1616,7 +1614,6 @@ function listen() {
     if (innerWidth === width) return;
     width = innerWidth;
     showGates();
-    strip.draw();
     runPicture();
   });
 }

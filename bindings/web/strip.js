@@ -34,8 +34,8 @@ export class Strip {
   #texts = [];
   #at = 0; // which of the lists is shown
   #edge = 0; // the edge that is used
-  #held = null; // the edge that is dragged, or the gate that is pressed
-  #scale = null; // the nanoseconds that the strip shows, while an edge is dragged
+  #held = null; // the edge that is dragged, and the nanoseconds that the strip shows then; or the gate that is pressed
+  #view = null; // how the list is drawn
   #key = { edge: -1, time: 0 }; // the edge that a key moved last, and when
 
   /**
@@ -60,6 +60,7 @@ export class Strip {
     });
     this.add.addEventListener("click", () => this.#split());
     this.remove.addEventListener("click", () => this.#drop());
+    new ResizeObserver(() => this.place.clientWidth !== this.#view?.width && this.draw()).observe(this.place);
   }
 
   /** Whether there is a gate list to show. */
@@ -116,31 +117,20 @@ export class Strip {
     return [...this.place.querySelectorAll(".edge")];
   }
 
-  // The nanoseconds that the strip shows, and its pixels.
-  #shown() {
-    const { sum, cycle } = this.#list;
-    const whole = this.#scale ?? Math.max(cycle ?? sum * (1 + FREE), sum);
-    return { whole, wide: Math.max(1, this.place.clientWidth - LEFT - RIGHT) };
+  // How the list that is shown lies in the strip: its nanoseconds, its pixels, its classes, and the pixels of each.
+  #measure({ entries, sum, cycle, kinds }) {
+    const most = entries.reduce((all, it) => all | it.gates, 0);
+    const lanes = Math.max(kinds ?? 8, 32 - Math.clz32(most));
+    const whole = this.#held?.whole ?? Math.max(cycle ?? sum * (1 + FREE), sum);
+    return { whole, wide: Math.max(1, this.place.clientWidth - LEFT - RIGHT), lanes, lane: lanes <= FEW ? HIGH_LANE : LANE, width: this.place.clientWidth };
   }
 
   #xOf(moment) {
-    const { whole, wide } = this.#shown();
-    return LEFT + (moment / whole) * wide;
+    return LEFT + (moment / this.#view.whole) * this.#view.wide;
   }
 
   #momentAt(x) {
-    const { whole, wide } = this.#shown();
-    return ((x - LEFT) / wide) * whole;
-  }
-
-  #lanes() {
-    const most = this.#list.entries.reduce((all, it) => all | it.gates, 0);
-    return Math.max(this.#list.kinds ?? 8, 32 - Math.clz32(most));
-  }
-
-  // The pixels of a class.
-  #lane() {
-    return this.#lanes() <= FEW ? HIGH_LANE : LANE;
+    return ((x - LEFT) / this.#view.wide) * this.#view.whole;
   }
 
   /** Draws the strip anew, for its width and its list. */
@@ -154,42 +144,59 @@ export class Strip {
       return;
     }
     this.#edge = Math.min(this.#edge, list.entries.length - 1);
+    this.#view = this.#measure(list);
     this.#drawLanes(list);
     this.#placeEdges(list);
     this.#tell();
   }
 
-  #drawLanes({ entries, sum, cycle }) {
-    const [lanes, lane, { whole, wide }] = [this.#lanes(), this.#lane(), this.#shown()];
-    const [height, parts] = [lanes * lane, []];
-    const end = cycle ?? sum;
-    for (let kind = 0; kind < lanes; kind += 1) {
-      const y = (lanes - 1 - kind) * lane;
-      parts.push(element("rect", { class: "lane", x: LEFT, y, width: this.#xOf(end) - LEFT, height: lane }));
-      for (const it of entries) if ((it.gates >> kind) & 1) parts.push(element("rect", { class: "open", x: this.#xOf(it.begin), y: y + 0.5, width: Math.max(0.5, this.#xOf(it.end) - this.#xOf(it.begin)), height: lane - 1 }));
-      parts.push(element("text", { x: LEFT - 6, y: y + lane / 2 + 4, class: "kind" }, kind));
-    }
-    if (end > sum) parts.push(element("rect", { class: "rest", x: this.#xOf(sum), y: 0, width: this.#xOf(end) - this.#xOf(sum), height }));
-    if (end < sum) parts.push(element("rect", { class: "cut", x: this.#xOf(end), y: 0, width: this.#xOf(sum) - this.#xOf(end), height }));
-    parts.push(element("path", { class: "cycle", d: `M${this.#xOf(end)} 0V${height + 4}` }));
-    for (const { at, text } of ticks({ from: 0n, to: inPicoseconds(whole) }, 0n, Math.max(2, Math.floor(wide / 130)))) parts.push(element("text", { class: "tick", x: this.#xOf(Number(at) / 1000), y: height + AXIS - 3 }, text));
-    this.svg.setAttribute("width", this.place.clientWidth);
+  #drawLanes(list) {
+    const { lanes, lane, width } = this.#view;
+    const height = lanes * lane;
+    const kinds = Array.from({ length: lanes }, (_, kind) => kind);
+    this.svg.setAttribute("width", width);
     this.svg.setAttribute("height", height + AXIS);
-    this.svg.replaceChildren(...parts);
+    this.svg.replaceChildren(...kinds.flatMap((kind) => this.#laneOf(list, kind)), ...this.#marksOf(list, height), ...this.#ticks(height + AXIS - 3));
     this.place.style.height = `${height + AXIS}px`;
+  }
+
+  // A part of the strip from one moment to another.
+  #stretch(name, from, to, y, height) {
+    return element("rect", { class: name, x: this.#xOf(from), y, width: Math.max(0.5, this.#xOf(to) - this.#xOf(from)), height });
+  }
+
+  // The row of a class: when it is open.
+  #laneOf({ entries, sum, cycle }, kind) {
+    const { lanes, lane } = this.#view;
+    const y = (lanes - 1 - kind) * lane;
+    const open = entries.filter((it) => (it.gates >> kind) & 1).map((it) => this.#stretch("open", it.begin, it.end, y + 0.5, lane - 1));
+    return [this.#stretch("lane", 0, cycle ?? sum, y, lane), ...open, element("text", { x: LEFT - 6, y: y + lane / 2 + 4 }, kind)];
+  }
+
+  // The end of the cycle, and what lies between it and the end of the entries.
+  #marksOf({ sum, cycle }, height) {
+    const end = cycle ?? sum;
+    const apart = end > sum ? [this.#stretch("rest", sum, end, 0, height)] : end < sum ? [this.#stretch("cut", end, sum, 0, height)] : [];
+    return [...apart, element("path", { class: "cycle", d: `M${this.#xOf(end)} 0V${height + 4}` })];
+  }
+
+  #ticks(y) {
+    const { whole, wide } = this.#view;
+    const found = ticks({ from: 0n, to: inPicoseconds(whole) }, 0n, Math.max(2, Math.floor(wide / 130)));
+    return found.map(({ at, text }) => element("text", { class: "tick", x: this.#xOf(Number(at) / 1000), y }, text));
   }
 
   // An edge for each entry, where the entry ends. One that is used stays in the page, so that it keeps the focus.
   #placeEdges(list) {
-    const height = `${this.#lanes() * this.#lane()}px`;
-    this.place.classList.toggle("dense", this.#shown().wide < DENSE * list.entries.length);
+    const { lanes, lane, wide } = this.#view;
+    this.place.classList.toggle("dense", wide < DENSE * list.entries.length);
     const old = this.#edges();
     const hadFocus = old.indexOf(document.activeElement) >= list.entries.length;
     old.slice(list.entries.length).forEach((it) => it.remove());
     list.entries.forEach((it, place) => {
       const edge = old[place] ?? this.#newEdge();
       edge.style.left = `${this.#xOf(it.end)}px`;
-      edge.style.height = height;
+      edge.style.height = `${lanes * lane}px`;
       this.#label(edge, list, place);
     });
     if (hadFocus) this.#focus();
@@ -296,8 +303,7 @@ export class Strip {
     }
     this.#use(edge);
     this.#focus();
-    this.#scale = this.#shown().whole;
-    this.#held = { edge, off: x - this.#xOf(this.#list.entries[edge].end), begun: false };
+    this.#held = { edge, whole: this.#view.whole, off: x - this.#xOf(this.#list.entries[edge].end), begun: false };
   }
 
   #placeOf(event) {
@@ -333,7 +339,7 @@ export class Strip {
 
   #up(event) {
     const held = this.#held;
-    [this.#held, this.#scale] = [null, null];
+    this.#held = null;
     if (!held || !this.#list || this.#list.fault) return;
     this.draw();
     if (held.edge === undefined) {
@@ -343,9 +349,10 @@ export class Strip {
 
   // A click opens or closes the gate that lies there.
   #click({ x, y }) {
-    const [moment, lanes] = [this.#momentAt(x), this.#lanes()];
+    const { lanes, lane } = this.#view;
+    const moment = this.#momentAt(x);
     const place = this.#list.entries.findIndex((it) => it.begin <= moment && moment < it.end);
-    const kind = lanes - 1 - Math.floor(y / this.#lane());
+    const kind = lanes - 1 - Math.floor(y / lane);
     if (place >= 0 && kind >= 0 && kind < lanes) this.#toggle(place, kind);
   }
 
@@ -359,7 +366,7 @@ export class Strip {
     else if (walk !== undefined) this.#walk(walk);
     else if (event.key === "Insert") this.#split();
     else if (event.key === "Delete") this.#drop();
-    else if (/^[0-7]$/.test(event.key) && Number(event.key) < this.#lanes()) this.#toggle(this.#edge, Number(event.key));
+    else if (/^[0-7]$/.test(event.key) && Number(event.key) < this.#view.lanes) this.#toggle(this.#edge, Number(event.key));
     else return;
     event.preventDefault();
   }
