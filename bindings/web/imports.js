@@ -12,8 +12,7 @@ const MOST_IN_LIST = 256;
 const PRIORITIES = 16;
 const SIDES = ["oper", "admin"];
 
-/** What each form is. */
-export const FORMS = { show: "the output of tc qdisc show", json: "the output of tc -j qdisc show", qcw: "a schedule of IEEE 802.1Qcw as JSON", xml: "XML" };
+const NAMES_OF_FORMS = { show: "the output of tc qdisc show", json: "the output of tc -j qdisc show", qcw: "a schedule of IEEE 802.1Qcw as JSON", xml: "XML" };
 
 // The form of a text by its first word, or null.
 function formByWord(word) {
@@ -22,6 +21,9 @@ function formByWord(word) {
 }
 
 const MARKS = { show: /qdisc/, json: /"kind"\s*:/, qcw: /gate-parameter-table|control-list/, xml: /gate-parameter-table|control-list/ };
+
+/** What a text of a form is, in words. */
+export const nameOfForm = (text, form) => (form === "qcw" && !MARKS.qcw.test(text) ? "JSON" : NAMES_OF_FORMS[form]);
 
 /**
  * Which form a text has whose schedules can be read, by its content; null where it has none.
@@ -41,7 +43,7 @@ export function formOf(text, isWhole) {
  * The tc lines of the schedules of a text: of each device that in force, and else that which is set.
  *
  * @param {string} text
- * @param {keyof FORMS} form
+ * @param {"show" | "json" | "qcw" | "xml"} form
  * @returns {{lines: string[], notes: string[]}} what is left out is said in notes
  * @throws {BadSchedule} where it can't be read
  */

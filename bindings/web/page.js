@@ -20,7 +20,7 @@ import { count } from "./words.js";
 import { Inputs } from "./inputs.js";
 import { Strip } from "./strip.js";
 import { BadSchedule } from "./documents.js";
-import { FORMS, formOf, importedFrom } from "./imports.js";
+import { formOf, importedFrom, nameOfForm } from "./imports.js";
 import { jobOf, kindOf, recordsOf, scriptOfReplay } from "./captures.js";
 import { STEPS } from "./gallery.js";
 import { INSTEAD, lacking } from "./support.js";
@@ -1108,14 +1108,15 @@ function sayRead(words, isFault = false) {
 
 // The schedules of a text of another form as tc lines, or null where it can't be read; it is said either way.
 function importOf(text, form, where) {
+  const name = nameOfForm(text, form);
   try {
     const { lines, notes } = importedFrom(text, form);
     const left = notes.map((it) => it.replace(/ \(--side .*\)$/, ""));
-    sayRead([`This is ${FORMS[form]}: read as ${count(lines.length, "tc line")}${where}.`, ...left.map((it) => `Note: ${it}.`)].join(" "));
+    sayRead([`This is ${name}: read as ${count(lines.length, "tc line")}${where}.`, ...left.map((it) => `Note: ${it}.`)].join(" "));
     return lines.map((it) => `${it}\n`).join("");
   } catch (error) {
     if (!(error instanceof BadSchedule)) throw error;
-    sayRead(`This is ${FORMS[form]}, and can't be read. ${error.message[0].toUpperCase()}${error.message.slice(1)}. What stood here stays.`, true);
+    sayRead(`This is ${name}, and can't be read. ${error.message[0].toUpperCase()}${error.message.slice(1)}. What stood here stays.`, true);
     return null;
   }
 }

@@ -1170,9 +1170,11 @@ def import_cases():
         yield case["name"], case["input"] if "input" in case else (TOP / case["file"]).read_text(encoding="utf-8"), case
 
 
-def read_as(page, name, case, before):
+def read_as(page, name, text, case, before):
     """That the page says what a text is, and has the tc lines of its schedules, or what stood there before."""
-    begin = f"This is {FORM_NAMES[name.partition(':')[0]]}"
+    form = name.partition(":")[0]
+    is_other = form == "qcw" and not re.search("gate-parameter-table|control-list", text)
+    begin = f"This is {'JSON' if is_other else FORM_NAMES[form]}"
     lines, said = case.get("lines"), page.text("read-as")
     if lines is None:
         fault = case["fault"][0].upper() + case["fault"][1:]
@@ -1195,7 +1197,7 @@ def try_imports(page):
             page.settle()
         else:
             give(page, "ports.json", text.encode())
-        read_as(page, name, case, before)
+        read_as(page, name, text, case, before)
     page.browser.shoot(SHOTS / f"{page.browser.name}-imports.png")
     texts = {name: (text, case) for name, text, case in import_cases()}
     shown, case = texts["show: one schedule in force"]

@@ -306,7 +306,9 @@ def streams(table: Octets, script: Octets = b"", from_: int = 0, late: bool = Fa
     the script comes into force. The library has no call for `late`, which raises `LibraryMissing`.
     """
     if late:
-        raise LibraryMissing("the library has no call for frames that come late: call the program instead with taprio.Program, or name it in TAPRIO_PORT")
+        raise LibraryMissing(
+            "the library has no call for frames that come late: call the program instead with taprio.Program, or name it in TAPRIO_PORT"
+        )
     table, script = octets(table), octets(script)
     given = [table, len(table), script, len(script)]
     guess = 4 * (len(table) + len(script)) + 65536
