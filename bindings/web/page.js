@@ -1150,6 +1150,7 @@ function setJob(name) {
   at("text-name").textContent = NAMES[name];
   at("text-hint").textContent = HINTS[name];
   at("beside-label").textContent = BESIDE[name] ?? "";
+  at("which").replaceChildren();
   for (const part of document.querySelectorAll("[data-jobs]")) part.hidden = !part.dataset.jobs.split(" ").includes(name);
   showOtherField(other.text !== "");
 }
@@ -1176,7 +1177,6 @@ function load(state) {
   setCapture(state.octets ?? octetsIn(state.capture ?? ""), state.name);
   at("link-row").hidden = true;
   at("long-link").hidden = true;
-  at("which").replaceChildren();
   sayRead("");
   return runAll();
 }
@@ -1446,7 +1446,6 @@ function textOf(octets) {
 // Takes a file by what its octets are.
 async function takeFile(file) {
   sayRead("");
-  at("which").replaceChildren();
   const octets = new Uint8Array(await file.arrayBuffer());
   const kind = kindOf(octets);
   if (kind.kind === "other") {
@@ -1587,7 +1586,7 @@ function listenToResults() {
   at("which").addEventListener("change", () => begin(async (mine) => {
     forgetTime();
     if (ran.job === "check") {
-      strip.showLine(ran.schedules[Number(at("which").value) || 0].number);
+      strip.showLine(ran.schedules[Number(at("which").value) || 0]?.number);
       await takeSchedule(mine);
     }
     fillOrigins(ran);
