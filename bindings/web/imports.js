@@ -33,9 +33,9 @@ export const nameOfForm = (text, form) => (form === "qcw" && !MARKS.qcw.test(tex
  * @returns {"show" | "json" | "qcw" | "xml" | null}
  */
 export function formOf(text, isWhole) {
-  const lines = text.replace(/^\ufeff/, "").split("\n").map((it) => it.trim());
-  const first = lines.find((it) => it && !it.startsWith("#")) ?? "";
-  const form = first && formByWord(first.split(/\s+/)[0]);
+  // (the first word of a line that is no comment)
+  const [, first] = /^[^\S\n]*([^\s#]\S*)/m.exec(text) ?? [];
+  const form = first ? formByWord(first) : null;
   return form && (isWhole || MARKS[form].test(text)) ? form : null;
 }
 
