@@ -1061,10 +1061,11 @@ def try_gates(page):
     page.browser.mouse("up", (x - 37, y), shift=True)
     fine = page.do(EDGES)[0]
     page.same(f"with Shift by nanoseconds: {fine}", [fine % 1000 != 0, abs(fine - got + 37 / per) < 2 / per], [True, True])
-    page.browser.mouse("down", edge(page, 0))
-    page.browser.mouse("move", (1, y), shift=True)
-    page.browser.mouse("up", (1, y), shift=True)
-    page.same("no interval below a nanosecond", page.do(EDGES), [1, 112303])
+    for x, wanted in ((1270, [112302, 112303]), (1, [1, 112303])):
+        page.browser.mouse("down", edge(page, 0))
+        page.browser.mouse("move", (x, y), shift=True)
+        page.browser.mouse("up", (x, y), shift=True)
+        page.same(f"no interval below a nanosecond, at {x}", page.do(EDGES), wanted)
     gates_text(page, "and it stands in the text", text.replace("S 81 12303 sched-entry S 00 100000", "S 81 1 sched-entry S 00 112302"))
     try_gates_by_keys(page)
     try_gates_in_text(page)
