@@ -13,6 +13,7 @@ class Broken(Exception):
 
 
 # What Chromium does at a key with Ctrl, which it is told: without a window nothing maps its keys.
+CODES = {"Enter": 13, "Tab": 9, "PageUp": 33, "PageDown": 34, "End": 35, "Home": 36, "ArrowLeft": 37, "ArrowUp": 38, "ArrowRight": 39, "ArrowDown": 40, "Insert": 45, "Delete": 46}
 EDITS = {"a": "selectAll", "c": "copy", "v": "paste", "z": "undo", "y": "redo"}
 
 
@@ -83,9 +84,9 @@ class Chromium:
     def type(self, text):
         self.call("Input.insertText", text=text)
 
-    def press(self, key, control=False):
-        code = {"Enter": 13, "Tab": 9, "ArrowDown": 40, "Home": 36, "Delete": 46}.get(key) or ord(key.upper())
-        values = {"key": key, "code": key if len(key) > 1 else f"Key{key.upper()}", "windowsVirtualKeyCode": code, "modifiers": 2 if control else 0}
+    def press(self, key, control=False, shift=False):
+        code = CODES.get(key) or ord(key.upper())
+        values = {"key": key, "code": key if len(key) > 1 else f"Key{key.upper()}", "windowsVirtualKeyCode": code, "modifiers": 2 * control + 8 * shift}
         if key == "Enter":
             values["text"] = "\r"
         if control and key in EDITS:
@@ -94,9 +95,14 @@ class Chromium:
         values.pop("text", None)
         self.call("Input.dispatchKeyEvent", type="keyUp", **values)
 
+    def mouse(self, kind, place, shift=False):
+        """What the mouse does at a place: "down", "move" with its button down, or "up"."""
+        event = {"down": "mousePressed", "move": "mouseMoved", "up": "mouseReleased"}[kind]
+        self.call("Input.dispatchMouseEvent", type=event, x=place[0], y=place[1], button="left", buttons=1, clickCount=1, modifiers=8 * shift)
+
     def drag(self, begin, end):
-        for kind, (x, y) in (("mousePressed", begin), ("mouseMoved", end), ("mouseReleased", end)):
-            self.call("Input.dispatchMouseEvent", type=kind, x=x, y=y, button="left", buttons=1, clickCount=1)
+        for kind, place in (("down", begin), ("move", end), ("up", end)):
+            self.mouse(kind, place)
 
     def look(self, dark=False, width=1280, height=1000):
         self.call("Emulation.setEmulatedMedia", features=[{"name": "prefers-color-scheme", "value": "dark" if dark else "light"}])
@@ -132,6 +138,9 @@ user_pref("marionette.port", %d);
 user_pref("ui.systemUsesDarkTheme", %d);
 user_pref("toolkit.legacyUserProfileCustomizations.stylesheets", true);
 """
+# Keys as WebDriver calls them.
+SIGNS = {"Enter": "\ue007", "Tab": "\ue004", "PageUp": "\ue00e", "PageDown": "\ue00f", "End": "\ue010", "Home": "\ue011", "ArrowLeft": "\ue012", "ArrowUp": "\ue013",
+         "ArrowRight": "\ue014", "ArrowDown": "\ue015", "Insert": "\ue016", "Delete": "\ue017"}
 # (a window is else no narrower than some 450 pixels)
 NARROW = ":root { min-width: 0 !important; }"
 
@@ -203,17 +212,27 @@ class Firefox:
         element = self.call("WebDriver:GetActiveElement")
         self.call("WebDriver:ElementSendKeys", id=next(iter(element.values())), text=text)
 
-    def press(self, key, control=False):
-        value = {"Enter": "\ue007", "Tab": "\ue004", "ArrowDown": "\ue015", "Home": "\ue011", "Delete": "\ue017"}.get(key, key)
-        keys = (["\ue009"] if control else []) + [value]
+    def press(self, key, control=False, shift=False):
+        keys = (["\ue009"] if control else []) + (["\ue008"] if shift else []) + [SIGNS.get(key, key)]
         downs = [{"type": "keyDown", "value": it} for it in keys]
         self.keys(*downs, *({"type": "keyUp", "value": it["value"]} for it in reversed(downs)))
+
+    def point(self, *steps):
+        self.call("WebDriver:PerformActions", actions=[{"type": "pointer", "id": "mouse", "parameters": {"pointerType": "mouse"}, "actions": list(steps)}])
+
+    def mouse(self, kind, place, shift=False):
+        """What the mouse does at a place: "down", "move" with its button down, or "up"."""
+        if shift:
+            self.keys({"type": "keyDown", "value": "\ue008"})
+        button = [] if kind == "move" else [{"type": f"pointer{kind.title()}", "button": 0}]
+        self.point({"type": "pointerMove", "x": int(place[0]), "y": int(place[1]), "duration": 0}, *button)
+        if shift:
+            self.keys({"type": "keyUp", "value": "\ue008"})
 
     def drag(self, begin, end):
         def move(place):
             return {"type": "pointerMove", "x": int(place[0]), "y": int(place[1]), "duration": 0}
-        steps = [move(begin), {"type": "pointerDown", "button": 0}, move(end), {"type": "pointerUp", "button": 0}]
-        self.call("WebDriver:PerformActions", actions=[{"type": "pointer", "id": "mouse", "parameters": {"pointerType": "mouse"}, "actions": steps}])
+        self.point(move(begin), {"type": "pointerDown", "button": 0}, move(end), {"type": "pointerUp", "button": 0})
 
     def look(self, dark=False, width=1280, height=1000):
         """Gives the page's part of the window a size; whether it is dark was said when the browser began."""

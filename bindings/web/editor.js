@@ -18,8 +18,12 @@ export class Editor {
   #count = 0; // how many are shown
   #put = ""; // what was put into the textarea last
 
-  /** @param {HTMLElement} box */
-  constructor(box) {
+  /**
+   * @param {HTMLElement} box
+   * @param {(text: string) => string | null} taken what goes in where a text is pasted; null where nothing does
+   */
+  constructor(box, taken) {
+    this.taken = taken;
     this.area = box.querySelector("textarea");
     this.numbers = box.querySelector(".numbers");
     this.mark = box.querySelector(".mark");
@@ -56,10 +60,31 @@ export class Editor {
   writeMicros() {
     const plain = this.text.replace(/^[ \t]*stream\b.*[µμ]s.*$/gm, (line) => line.replace(/[µμ](?=s\b)/g, "u"));
     if (plain === this.text) return;
-    const { selectionStart, selectionEnd, scrollTop } = this.area;
-    this.text = plain;
-    this.area.setSelectionRange(selectionStart, selectionEnd);
-    this.area.scrollTop = scrollTop;
+    const { selectionStart, selectionEnd } = this.area;
+    this.#exchange(plain, selectionStart, selectionEnd);
+  }
+
+  /** Puts in a text that differs in a part, and selects this part where it can be seen. */
+  change(text, begin, end) {
+    this.#exchange(text, begin, end);
+    this.#reveal(begin, end);
+  }
+
+  /** Lines as they go in where the cursor stands, apart from what stands before and behind it. */
+  apart(lines) {
+    const { value, selectionStart: begin, selectionEnd: end } = this.area;
+    const before = begin > 0 && value[begin - 1] !== "\n" ? "\n" : "";
+    return before + (value[end] === "\n" ? lines.replace(/\n$/, "") : lines);
+  }
+
+  /** What the page put in last, before it was typed in. */
+  get put() {
+    return this.#held ? this.#text : this.#put;
+  }
+
+  /** Whether the text is too long to be changed. */
+  get isHeld() {
+    return this.#held !== null;
   }
 
   /** Whether nothing was changed since the page put the text in, so that the browser has nothing to undo. */
@@ -101,6 +126,28 @@ export class Editor {
     this.#put = this.area.value;
   }
 
+  // Puts another text in, which stays scrolled where it is.
+  #exchange(text, begin, end) {
+    const { scrollTop, scrollLeft } = this.area;
+    this.text = text;
+    this.area.setSelectionRange(begin, end);
+    this.area.scrollTo(scrollLeft, scrollTop);
+    this.#place();
+  }
+
+  // Scrolls so far that a part of the text is seen.
+  #reveal(begin, end) {
+    const above = this.area.value.slice(0, begin);
+    const [top, left] = [(above.split("\n").length - 1) * this.#height(), begin - above.lastIndexOf("\n") - 1];
+    const { scrollTop, clientHeight, scrollLeft, clientWidth } = this.area;
+    if (top < scrollTop || top + 2 * this.#height() > scrollTop + clientHeight) this.area.scrollTop = Math.max(0, top - this.#height());
+    const pen = document.createElement("canvas").getContext("2d");
+    pen.font = getComputedStyle(this.area).font;
+    const [from, to] = [left, left + end - begin + 2].map((it) => it * pen.measureText("0").width);
+    if (from < scrollLeft || to > scrollLeft + clientWidth - 20) this.area.scrollLeft = Math.max(0, from - clientWidth / 2);
+    this.#place();
+  }
+
   // Puts a text in the place of what is selected, or of all, and the cursor behind it.
   #replace(text, begin = 0, end = this.area.value.length) {
     const whole = this.#held !== null || (begin === 0 && end === this.area.value.length);
@@ -116,10 +163,12 @@ export class Editor {
   }
 
   #paste(event) {
-    const text = (event.clipboardData?.getData("text/plain") ?? "").replace(/\r\n?/g, "\n");
-    if (this.#held ? !this.whole : text.length < LONG_PASTE) return;
+    const pasted = (event.clipboardData?.getData("text/plain") ?? "").replace(/\r\n?/g, "\n");
+    if (this.#held && !this.whole) return;
+    const text = this.taken(pasted);
+    if (!this.#held && text === pasted && text.length < LONG_PASTE) return;
     event.preventDefault();
-    this.#replace(text, this.area.selectionStart, this.area.selectionEnd);
+    if (text !== null) this.#replace(text, this.area.selectionStart, this.area.selectionEnd);
   }
 
   #copy(event) {

@@ -18,6 +18,9 @@ import { commandsIn, differencesByClass, differencesByStream, windowOfBoth, with
 import { dateOf, endOfRun, notYet, originOf, setClock, windowOf } from "./happens.js";
 import { count } from "./words.js";
 import { Inputs } from "./inputs.js";
+import { Strip } from "./strip.js";
+import { BadSchedule } from "./documents.js";
+import { formOf, importedFrom, nameOfForm } from "./imports.js";
 import { jobOf, kindOf, recordsOf, scriptOfReplay } from "./captures.js";
 import { STEPS } from "./gallery.js";
 import { INSTEAD, lacking } from "./support.js";
@@ -47,10 +50,11 @@ const examples = JSON.parse(at("page-examples").textContent);
 const octetsIn = (base64) => Uint8Array.from(atob(base64), (it) => it.charCodeAt(0));
 const encoded = (text) => new TextEncoder().encode(text);
 const runner = new Runner(at("page-worker").textContent, octetsIn(at("page-wasm").textContent));
-const editor = new Editor(at("editor"));
-const beside = new Editor(at("beside-editor"));
-const other = new Editor(at("other-editor")); // the schedule that is compared with that of the input
+const editor = new Editor(at("editor"), (text) => takePasted(editor, text));
+const beside = new Editor(at("beside-editor"), (text) => takePasted(beside, text));
+const other = new Editor(at("other-editor"), (text) => takePasted(other, text)); // the schedule that is compared with that of the input
 const editors = [editor, beside, other];
+const strip = new Strip(at("gates"), { begin: (source) => noteGates(source), change: (...words) => putGates(...words), end: () => endGates(), choose: (...words) => chooseSchedule(...words) });
 
 const inputs = new Inputs();
 const past = []; // what stood in the page before another text took its place, for Ctrl+Z
@@ -72,6 +76,8 @@ let turn = 0; // the number of the run whose results are wanted
 let working = 0; // the number of the run of all that goes on
 let drawing = false; // whether a picture is drawn for itself
 let again = false; // whether it is to be drawn once more
+let moving = false; // whether what is moved by hand is run
+let moved = false; // and whether it was moved since
 
 const COMPARED = ["script", "bounds", "streams", "replay"]; // the jobs of which another schedule is run, too
 const NAMES = { script: "Script", bounds: "Schedules", check: "Schedules", streams: "Table of streams", replay: "Script of the replay" };
@@ -709,7 +715,9 @@ async function takeOwn(mine, answers) {
 }
 
 function fillWhich(names) {
+  const before = Number(at("which").value) || 0;
   at("which").replaceChildren(...names.map((name, place) => new Option(name, String(place))));
+  at("which").value = String(before < names.length ? before : 0);
 }
 
 // Whether what is shown stays where what was typed has a fault: unless it is of two runs, of which the newer one was stopped before its picture came.
@@ -830,6 +838,7 @@ async function begin(what, typed = false) {
 // Begins a run of what stands in the page. What is shown is of another one until its answers come, and stays as high as it is.
 async function runAll(typed = false) {
   clearTimeout(runTimer);
+  showGates();
   if (!typed) {
     keep();
     clearFault();
@@ -847,6 +856,7 @@ const isShort = () => editor.text.length + other.text.length + (["streams", "bou
 // What stands in the page was changed: it is run after a moment without another change, where it is short.
 function runSoon() {
   clearTimeout(runTimer);
+  showGates();
   if (isShort()) {
     setStale(true, "");
     runTimer = setTimeout(() => runAll(true), RUN_AFTER);
@@ -986,6 +996,7 @@ function showOtherField(open) {
   const has = COMPARED.includes(jobShown);
   at("other-field").hidden = !has || !open;
   at("compare").hidden = !has || open;
+  showGates();
 }
 
 function openCompare() {
@@ -1011,7 +1022,121 @@ function endCompare() {
   at("compare").focus();
 }
 
-// 6. What stands in the page
+// 6. The gates by hand
+
+// The editor whose text has the schedules.
+const scheduleEditor = () => (job() === "streams" ? beside : editor);
+
+// The editors whose gates are changed by hand: that one, and that of the other schedule where it is open.
+const gateEditors = () => (at("other-field").hidden ? [scheduleEditor()] : [scheduleEditor(), other]);
+
+// Whether the strip is open: as it was chosen, and else where there is much room.
+const muchRoom = matchMedia("(min-width: 60.01rem)");
+let gatesChosen = null;
+const gatesOpen = () => gatesChosen ?? muchRoom.matches;
+
+// Shows the gate lists of what stands in the page: that in which the cursor stands, where a text is typed.
+function showGates() {
+  const parts = gateEditors();
+  const source = parts.findIndex((it) => it.area === document.activeElement);
+  strip.show(parts.map((it) => (it.isHeld ? "" : it.text)), source < 0 ? null : { source, place: parts[source].area.selectionStart });
+  const open = strip.has && gatesOpen();
+  at("edit-gates").hidden = !strip.has;
+  at("edit-gates").setAttribute("aria-expanded", String(open));
+  at("edit-gates").textContent = open ? "Hide the gates" : "Gates by hand";
+  at("gates-hint").hidden = !open;
+  at("gates").hidden = !open;
+}
+
+// The picture of a check shows the schedule whose gates are chosen.
+function chooseSchedule(source, line) {
+  const place = ran?.job === "check" && !source ? ran.schedules.findIndex((it) => it.number === line) : -1;
+  if (place < 0) return;
+  at("which").value = String(place);
+  at("which").dispatchEvent(new Event("change"));
+}
+
+function openGates() {
+  gatesChosen = !gatesOpen();
+  showGates();
+  if (gatesChosen) at("gates").scrollIntoView({ block: "nearest" });
+}
+
+// Notes what stands in the page before gates are changed by hand, so that Ctrl+Z brings it back; and what stood there before it was typed in.
+function noteGates(source) {
+  const part = gateEditors()[source];
+  const typed = part.fresh ? null : part.put;
+  notePast();
+  if (typed !== null) past.splice(-1, 0, { ...past.at(-1), [["text", "beside", "other"][editors.indexOf(part)]]: typed });
+}
+
+// Puts a text with other gates into the page, and runs it: one run after the other, each of the newest text.
+function putGates(source, text, begin, end) {
+  document.body.classList.add("moving");
+  gateEditors()[source].change(text, begin, end);
+  becomeOwn();
+  if (isShort()) runMoved();
+  else document.body.classList.remove("moving");
+}
+
+async function runMoved() {
+  moved = moving;
+  clearTimeout(runTimer);
+  if (moving) return;
+  moving = true;
+  await runAll(true);
+  moving = false;
+  if (moved) await runMoved();
+  else document.body.classList.remove("moving");
+}
+
+// What was moved stays as it is: a run of what stood there meanwhile is not waited for.
+function endGates() {
+  if (!moved) return;
+  moved = false;
+  runAll(true);
+}
+
+// 7. Schedules of other forms
+
+// Says of what was pasted or dropped what it is, and as what it is read.
+function sayRead(words, isFault = false) {
+  at("read-as").hidden = !words;
+  at("read-as").textContent = words;
+  at("read-as").classList.toggle("fault", isFault);
+}
+
+// The schedules of a text of another form as tc lines, or null where it can't be read; it is said either way.
+function importOf(text, form, where) {
+  const name = nameOfForm(text, form);
+  try {
+    const { lines, notes } = importedFrom(text, form);
+    const left = notes.map((it) => it.replace(/ \(--side .*\)$/, ""));
+    sayRead([`This is ${name}: read as ${count(lines.length, "tc line")}${where}.`, ...left.map((it) => `Note: ${it}.`)].join(" "));
+    return lines.map((it) => `${it}\n`).join("");
+  } catch (error) {
+    if (!(error instanceof BadSchedule)) throw error;
+    sayRead(`This is ${name}, and can't be read. ${error.message[0].toUpperCase()}${error.message.slice(1)}. What stood here stays.`, true);
+    return null;
+  }
+}
+
+// What goes into a field where a text is pasted; null where nothing does. Schedules of other forms go in as tc lines, and from a table of streams
+// beside it.
+function takePasted(part, text) {
+  sayRead("");
+  const form = formOf(text, false);
+  if (!form) return text;
+  const isTable = part !== other && part !== scheduleEditor();
+  const lines = importOf(text, form, isTable ? ", in the place of the tc lines of the other field" : "");
+  if (lines === null || !isTable) return lines && part.apart(lines);
+  notePast();
+  scheduleEditor().text = withSchedule(scheduleEditor().text, lines);
+  becomeOwn();
+  return null;
+}
+
+// 8. What stands in the page
 
 // What is shown is of another text or of other options than stand there now; a fault, too.
 function setStale(is, words = "Changed since this was run, and too long to be run while you type. Run it (Ctrl+Enter in the text).") {
@@ -1025,6 +1150,7 @@ function setJob(name) {
   at("text-name").textContent = NAMES[name];
   at("text-hint").textContent = HINTS[name];
   at("beside-label").textContent = BESIDE[name] ?? "";
+  at("which").replaceChildren();
   for (const part of document.querySelectorAll("[data-jobs]")) part.hidden = !part.dataset.jobs.split(" ").includes(name);
   showOtherField(other.text !== "");
 }
@@ -1051,6 +1177,7 @@ function load(state) {
   setCapture(state.octets ?? octetsIn(state.capture ?? ""), state.name);
   at("link-row").hidden = true;
   at("long-link").hidden = true;
+  sayRead("");
   return runAll();
 }
 
@@ -1161,7 +1288,7 @@ async function goBack(from, to) {
   if (example === OWN) showOwn(its);
   else showExample(example);
   await load(state);
-  editor.area.focus();
+  if (!at("gates").contains(document.activeElement)) editor.area.focus();
 }
 
 // Ctrl+Z and Ctrl+Y where the browser itself has nothing to undo in the text.
@@ -1309,8 +1436,16 @@ async function takeChosen() {
   at("file").value = "";
 }
 
+// The text of a file, or null where it has a schedule that can't be read.
+function textOf(octets) {
+  const text = new TextDecoder().decode(octets);
+  const form = formOf(text, true);
+  return form ? importOf(text, form, "") : text;
+}
+
 // Takes a file by what its octets are.
 async function takeFile(file) {
+  sayRead("");
   const octets = new Uint8Array(await file.arrayBuffer());
   const kind = kindOf(octets);
   if (kind.kind === "other") {
@@ -1325,7 +1460,8 @@ async function takeFile(file) {
     if (FRAME_LINE.test(editor.text)) editor.text = editor.text.split("\n").filter((it) => !FRAME_LINE.test(it)).join("\n");
     at("until").value = "";
   } else {
-    const text = new TextDecoder().decode(octets);
+    const text = textOf(octets);
+    if (text === null) return;
     const name = jobOf(text, job());
     const part = name === "bounds" && STREAM_LINE.test(text) ? beside : editor;
     beginAnother();
@@ -1438,6 +1574,7 @@ function listenToInput() {
   at("compare").addEventListener("click", openCompare);
   at("copy-schedule").addEventListener("click", copySchedule);
   at("end-compare").addEventListener("click", endCompare);
+  at("edit-gates").addEventListener("click", openGates);
 }
 
 function listenToResults() {
@@ -1448,7 +1585,10 @@ function listenToResults() {
   at("origin").addEventListener("change", () => ran && (layPicture(), showTables()));
   at("which").addEventListener("change", () => begin(async (mine) => {
     forgetTime();
-    if (ran.job === "check") await takeSchedule(mine);
+    if (ran.job === "check") {
+      strip.showLine(ran.schedules[Number(at("which").value) || 0]?.number);
+      await takeSchedule(mine);
+    }
     fillOrigins(ran);
     showTables();
     if (ran.job === "bounds") sayVerdict("");
@@ -1473,6 +1613,7 @@ function listen() {
   addEventListener("resize", () => {
     if (innerWidth === width) return;
     width = innerWidth;
+    showGates();
     runPicture();
   });
 }

@@ -1,9 +1,12 @@
 #!/usr/bin/env python3
-"""Compares the page of bindings/web/out with the program of the repository: test.py [chromium|firefox ..]."""
+"""Compares the page of bindings/web with the program of the repository: test.py [chromium|firefox ..] [NAME ..].
+
+With names, such as `gates`, only those functions try_NAME are run. TAPRIO_PAGE names another page than bindings/web/taprio.html."""
 import base64
 import functools
 import http.server
 import json
+import os
 import pathlib
 import random
 import re
@@ -12,6 +15,7 @@ import sys
 import tempfile
 import threading
 import time
+import tomllib
 import zlib
 
 from bundle import modules, options
@@ -20,7 +24,7 @@ from browsers import Broken, Chromium, Firefox, wait_for
 WEB = pathlib.Path(__file__).resolve().parent
 TOP = WEB.parent.parent
 OUT = WEB / "out"
-PAGE = WEB / "taprio.html"
+PAGE = pathlib.Path(os.environ.get("TAPRIO_PAGE") or WEB / "taprio.html").resolve()
 EXAMPLES = TOP / "examples"
 SHOTS = OUT / "shots"
 PROGRAM = subprocess.run([TOP / "taprio_port", "--where"], stdout=subprocess.PIPE, text=True, check=True).stdout.strip()
@@ -47,7 +51,7 @@ class Server(http.server.ThreadingHTTPServer):
                 super().do_GET()
 
         self.asked = []
-        super().__init__(("127.0.0.1", 0), functools.partial(Handler, directory=str(WEB)))
+        super().__init__(("127.0.0.1", 0), functools.partial(Handler, directory=str(PAGE.parent)))
         threading.Thread(target=self.serve_forever, daemon=True).start()
 
 
@@ -112,15 +116,28 @@ class Page:
 
     def paste(self, text, field="text"):
         """Copies a text elsewhere in the page, and pastes it in the place of what stands in a field; the seconds that it takes."""
-        self.do(f"""const it = document.createElement('textarea'); it.id = 'copied'; it.value = 'it'; document.body.append(it); it.focus(); it.select();
-            it.addEventListener('copy', (event) => {{ event.clipboardData.setData('text/plain', {json.dumps(text)}); event.preventDefault(); }})""")
-        self.browser.press("c", control=True)
-        self.do(f"at('copied').remove(); at('{field}').focus()")
+        self.copy(text)
+        self.do(f"at('{field}').focus()")
         self.browser.press("a", control=True)
         begun = time.monotonic()
         self.browser.press("v", control=True)
         self.do("return 1")
         return time.monotonic() - begun
+
+    def paste_here(self, text):
+        """Copies a text elsewhere in the page, and pastes it where the cursor stands in the text."""
+        place = self.do("return [at('text').selectionStart, at('text').selectionEnd]")
+        self.copy(text)
+        self.do(f"at('text').focus(); at('text').setSelectionRange({place[0]}, {place[1]})")
+        self.browser.press("v", control=True)
+        time.sleep(0.4)
+
+    def copy(self, text):
+        """Copies a text in a field of its own, which goes again."""
+        self.do(f"""const it = document.createElement('textarea'); it.id = 'copied'; it.value = 'it'; document.body.append(it); it.focus(); it.select();
+            it.addEventListener('copy', (event) => {{ event.clipboardData.setData('text/plain', {json.dumps(text)}); event.preventDefault(); }})""")
+        self.browser.press("c", control=True)
+        self.do("at('copied').remove()")
 
     def kept(self):
         """The names of the inputs that are kept, the newest first, once what was changed is kept."""
@@ -816,8 +833,10 @@ frame 3 16 1514
 clock 420000000
 """
 LABELS = "return [...document.querySelectorAll('#canvas text')].map((it) => it.textContent).filter((it) => /^(class .|wire)$/.test(it)).sort().reverse()"
-# The parts of the legend that lie outside of the picture, or on one another.
-CUT = """const box = document.querySelector('#canvas svg').getBoundingClientRect(); const parts = [...document.querySelectorAll('#canvas .legend')].map((it) => it.getBoundingClientRect());
+# The parts of the legend that lie outside of the picture, or on one another: by their shapes, since Firefox 153 takes what strokes could reach, too.
+CUT = """const box = document.querySelector('#canvas svg').getBoundingClientRect();
+    const placed = (it) => { const [r, m] = [it.getBBox(), it.getScreenCTM()]; return { left: m.a * r.x + m.e, right: m.a * (r.x + r.width) + m.e, top: m.d * r.y + m.f, bottom: m.d * (r.y + r.height) + m.f }; };
+    const parts = [...document.querySelectorAll('#canvas .legend')].map(placed);
     const frame = document.getElementById('frame').getBoundingClientRect(); const right = Math.min(box.right, frame.right);
     return [parts.length, parts.filter((it, place) => it.left < box.left || it.right > right || it.bottom > box.bottom || it.top < box.top
       || parts.some((other, at) => at < place && other.left < it.right && it.left < other.right && other.top < it.bottom - 2 && it.top < other.bottom - 2)).length]"""
@@ -957,6 +976,250 @@ def try_compare_jobs(page):
         page.same(f"contrast of two schedules at {width}", page.do(CONTRAST), [])
         page.browser.shoot(SHOTS / f"{page.browser.name}-compare-{width}.png")
     page.browser.look()
+    page.choose("first.script")
+
+
+# What stands around a gate list stays as it is: comments, backslashes and the other commands.
+GATES = """# a comment that goes on \\
+tc qdisc replace dev x root taprio sched-entry S 01 5000
+tc qdisc replace dev eth1 root taprio num_tc 2 map 0 1 base-time 0 \\
+    sched-entry S 02 50000 \\
+    sched-entry S 0x1 200000 cycle-time 240000 \\
+\tclockid CLOCK_TAI
+  tc qdisc replace dev eth2 root taprio num_tc 2 map 0 1 base-time 0 sched-entry S 03 300000
+frame 1 1 1000
+clock 900000000
+"""
+EDGES = "return [...document.querySelectorAll('#gates .edge')].map((it) => Number(it.ariaValueNow))"
+TEXT = "return at('text').value"
+
+
+def edge(page, number):
+    """Where an edge of the strip is: its middle, in pixels of the window."""
+    page.do("at('gates').scrollIntoView({ block: 'center' })")
+    return page.do(f"const r = document.querySelectorAll('#gates .edge')[{number}].getBoundingClientRect(); return [(r.left + r.right) / 2, (r.top + r.bottom) / 2]")
+
+
+def press_edge(page, keys, shift=False):
+    for key in keys.split():
+        page.browser.press(key, shift=shift)
+    time.sleep(0.1)
+    page.settle()
+
+
+def gates_text(page, what, wanted):
+    page.settle()
+    page.same(what, page.do(TEXT), wanted)
+
+
+def try_gates(page):
+    """Edges of a gate list are dragged and moved by keys: only these words of its line change, and the port answers what stands there then."""
+    page.choose("schedule.script")
+    text = page.do(TEXT)
+    page.same("edges", page.do(EDGES), [12303, 112303])
+    page.same("numbers beside them", page.text("gates-said"), "Entry 1 of 2: 81, 0 to 12.303 us (12,303 ns). Cycle 112.303 us, the sum.")
+    page.same("without a name", page.do(NAMELESS), [])
+    page.same("one of them is reached by Tab", page.do("return [...document.querySelectorAll('#gates .edge')].map((it) => it.tabIndex)"), [0, -1])
+    said = page.text("verdict")
+    page.do(COUNTED)
+    (x, y), (last, _) = edge(page, 0), edge(page, 1)
+    for what, wanted in (("a click opens the gate of class 6", text.replace("S 00 100000", "S 40 100000")), ("and closes it", text)):
+        # (the sentence of the example goes, and what is below it moves up)
+        place = (x + last) / 2, page.do("return document.querySelector('#gates .strip').getBoundingClientRect().top") + 15
+        page.browser.drag(place, place)
+        gates_text(page, what, wanted)
+    page.choose("schedule.script")
+    x, y = edge(page, 0)
+    per = (last - x) / 100_000
+    page.browser.mouse("down", (x, y))
+    for moved in range(1, 30):
+        page.browser.mouse("move", (x + moved, y))
+    wait_for(page.browser, f"return document.getElementById('verdict').textContent !== {json.dumps(said)}")
+    page.browser.mouse("move", (x + 30_400 * per, y))
+    page.browser.mouse("up", (x + 30_400 * per, y))
+    got = page.do(EDGES)[0]
+    page.same(f"dragged by about 30.4 us, in whole microseconds: {got}", [got % 1000, abs(got - 42_703) < 1500 + 1 / per], [0, True])
+    dragged = text.replace("S 81 12303 sched-entry S 00 100000", f"S 81 {got} sched-entry S 00 {112303 - got}")
+    gates_text(page, "only two words of the line", dragged)
+    wait_for(page.browser, FRESH, 5)
+    page.answers("a dragged edge", program("script", text=dragged.encode())[1])
+    page.picture("a dragged edge", dragged.encode())
+    page.same("one run at a time", page.do("return window.most <= 1"), True)
+    page.same("the verdict follows", page.text("verdict"), "2 frames sent, longest wait 12.304 us (frame 2, class 0).")
+    page.browser.shoot(SHOTS / f"{page.browser.name}-gates.png")
+    page.do("at('text').focus()")
+    page.browser.press("z", control=True)
+    wait_for(page.browser, f"return document.getElementById('text').value === {json.dumps(text)}")
+    page.settle()
+    page.same("undone: the strip, too", [page.do(EDGES), page.text("verdict"), page.do("return at('example').value")], [[12303, 112303], said, "schedule.script"])
+    page.browser.press("y", control=True)
+    wait_for(page.browser, f"return document.getElementById('text').value === {json.dumps(dragged)}")
+    page.settle()
+    x, y = edge(page, 0)
+    page.browser.mouse("down", (x, y))
+    page.browser.mouse("move", (x - 37, y), shift=True)
+    page.browser.mouse("up", (x - 37, y), shift=True)
+    fine = page.do(EDGES)[0]
+    page.same(f"with Shift by nanoseconds: {fine}", [fine % 1000 != 0, abs(fine - got + 37 / per) < 2 / per], [True, True])
+    for x, wanted in ((1270, [112302, 112303]), (1, [1, 112303])):
+        page.browser.mouse("down", edge(page, 0))
+        page.browser.mouse("move", (x, y), shift=True)
+        page.browser.mouse("up", (x, y), shift=True)
+        page.same(f"no interval below a nanosecond, at {x}", page.do(EDGES), wanted)
+    gates_text(page, "and it stands in the text", text.replace("S 81 12303 sched-entry S 00 100000", "S 81 1 sched-entry S 00 112302"))
+    try_gates_by_keys(page)
+    try_gates_in_text(page)
+
+
+def try_gates_by_keys(page):
+    """Arrows, Insert, Delete and digits on an edge."""
+    page.set("text", GATES)
+    page.settle()
+    page.do("document.querySelector('#gates .edge').focus()")
+    changed = [("ArrowLeft ArrowLeft", False, "02 50000", "02 48000", "0x1 200000", "0x1 202000"), ("ArrowRight", True, "02 48000", "02 48001", "0x1 202000", "0x1 201999"),
+               ("ArrowRight", False, "02 48001", "02 49000", "0x1 201999", "0x1 201000"), ("1", False, "02 49000", "00 49000", "", ""),
+               ("Insert", False, "S 00 49000", "S 00 25000 \\\n    sched-entry S 00 24000", "", ""), ("1", False, "S 00 25000", "S 02 25000", "", ""),
+               ("PageDown Delete", False, "S 02 25000 \\\n    sched-entry S 00 24000", "S 02 49000", "", ""), ("End ArrowRight", False, "0x1 201000", "0x1 202000", "", ""),
+               ("0", False, "0x1", "0x0", "", "")]
+    text = GATES
+    for keys, shift, before, after, other, its in changed:
+        text = text.replace(before, after, 1).replace(other, its, 1) if other else text.replace(before, after, 1)
+        press_edge(page, keys, shift)
+        gates_text(page, f"after {keys}", text)
+    page.same("the cycle that is given", page.text("gates-said"), "Entry 2 of 2: 00, 49 us to 251 us (202,000 ns). Cycle 240 us, as given: 11 us of the entries are cut.")
+    page.same("it is marked", page.do("return document.querySelectorAll('#gates .cut').length"), 1)
+    page.same("the focus stays on the edge", page.do("return [document.activeElement.role, document.activeElement.ariaValueText]"), ["slider", "251 us: all closed for 202 us"])
+    page.answers("gates by keys", program("script", text=text.encode())[1])
+    page.browser.press("z", control=True)
+    wait_for(page.browser, f"return document.getElementById('text').value === {json.dumps(text.replace('0x0 ', '0x1 ', 1))}")
+    page.settle()
+    page.same("undone on the edge", page.do("return document.activeElement.role"), "slider")
+    press_edge(page, "Home Delete Delete")
+    page.same("the last entry stays", [page.do(EDGES), page.text("gates-said")], [[251000], "A gate list has at least one entry."])
+
+
+def try_gates_in_text(page):
+    """What is typed moves the strip: the line in which the cursor stands is shown; a fault leaves the strip, and says so."""
+    page.set("text", GATES)
+    page.do("at('text').focus()")
+    place = GATES.index("300000")
+    page.do(f"at('text').setSelectionRange({place}, {place + 1})")
+    page.browser.type("4")
+    wait_for(page.browser, FRESH, 5)
+    page.same("the line of the cursor", page.do("return [at('gates-line').selectedOptions[0].textContent, at('gates-line').options.length]"), ["line 7, eth2", 2])
+    page.same("what is typed moves the edge", page.do(EDGES), [400000])
+    page.do(f"at('text').setSelectionRange({place}, {place + 6})")
+    page.browser.type("x")
+    wait_for(page.browser, FRESH_OR_FAULT, 5)
+    page.same("a fault", [page.text("gates-said"), page.do(EDGES), page.do("return document.querySelector('[data-do=add]').disabled")],
+              ["Line 7: sched-entry 1 can't be read: S, gates such as 01 and nanoseconds are expected.", [400000], True])
+    most = "tc qdisc replace dev eth0 root taprio num_tc 1 map 0 " + " ".join(["sched-entry S 01 1000"] * 256)
+    page.set("text", f"{most}\n")
+    page.run()
+    page.click("[data-do=add]")
+    page.same("at most 256 entries", [page.text("gates-said"), page.do("return document.querySelectorAll('#gates .edge').length")], ["A gate list has at most 256 entries.", 256])
+    page.click("[data-do=remove]")
+    gates_text(page, "one is removed, and its neighbour has its time", most.replace("1000 sched-entry S 01 1000", "2000", 1) + "\n")
+    page.choose("planned.streams")
+    text = page.do("return at('beside').value")
+    page.do("document.querySelector('#gates .edge').focus()")
+    press_edge(page, "ArrowRight")
+    page.same("the schedule beside a table", page.do("return at('beside').value"), text.replace("12303", "13000").replace("100000\n", "99303\n"))
+    page.choose("schedule.script")
+    text = page.do(TEXT)
+    page.click("#compare")
+    page.set("other", OTHER)
+    page.run()
+    page.do("at('gates-line').value = '1'; at('gates-line').dispatchEvent(new Event('change'))")
+    page.same("the other schedule's gates", page.do("return [at('gates-line').selectedOptions[0].textContent, at('gates-said').textContent.slice(0, 40)]"),
+              ["other schedule, line 1, eth0", "Entry 1 of 2: 81, 0 to 22.303 us (22,303"])
+    page.do("document.querySelector('#gates .edge').focus()")
+    press_edge(page, "ArrowLeft")
+    moved = OTHER.replace("22303", "22000").replace("40000", "40303")
+    page.same("only the other schedule is changed", [page.do("return at('other').value"), page.do(TEXT)], [moved, text])
+    wait_for(page.browser, FRESH, 5)
+    page.same("and is run", page.saved("save-other-answers"), program("script", text=with_schedule(text, moved).encode())[1])
+    page.browser.press("z", control=True)
+    wait_for(page.browser, f"return document.getElementById('other').value === {json.dumps(OTHER)}")
+    page.settle()
+    page.choose("windows.schedules")
+    page.do("at('gates-line').value = '1'; at('gates-line').dispatchEvent(new Event('change'))")
+    page.settle()
+    page.same("the picture of a check shows the chosen one", page.do("return at('which').value"), "1")
+    page.choose("first.script")
+    page.same("no strip without a schedule", page.do("return ['gates', 'edit-gates', 'gates-hint'].map((it) => at(it).checkVisibility())"), [False, False, False])
+    at_size(page, 390, 844)
+    page.open("")
+    page.choose("schedule.script")
+    page.same("closed where there is little room", page.do("return ['gates', 'edit-gates'].map((it) => at(it).checkVisibility())"), [False, True])
+    page.click("#edit-gates")
+    page.same("opened, and it fits", page.do("return [at('gates').checkVisibility(), document.documentElement.scrollWidth <= document.documentElement.clientWidth]"), [True, True])
+    page.same("contrast of the strip", page.do(CONTRAST), [])
+    page.browser.shoot(SHOTS / f"{page.browser.name}-gates-390.png")
+    page.browser.look()
+    page.open("")
+
+
+FRESH_OR_FAULT = "return document.getElementById('stop').disabled && (!document.getElementById('fault').hidden || !document.getElementById('view').classList.contains('stale'))"
+IMPORTS = TOP / "tests" / "imports" / "cases.toml"
+FORM_NAMES = {"show": "the output of tc qdisc show", "json": "the output of tc -j qdisc show", "qcw": "a schedule of IEEE 802.1Qcw as JSON", "xml": "XML"}
+
+
+def import_cases():
+    """The cases that the package of Python is tried on, too: their names, their texts, and themselves."""
+    for case in tomllib.loads(IMPORTS.read_text(encoding="utf-8"))["case"]:
+        yield case["name"], case["input"] if "input" in case else (TOP / case["file"]).read_text(encoding="utf-8"), case
+
+
+def read_as(page, name, text, case, before):
+    """That the page says what a text is, and has the tc lines of its schedules, or what stood there before."""
+    form = name.partition(":")[0]
+    is_other = form == "qcw" and not re.search("gate-parameter-table|control-list", text)
+    begin = f"This is {'JSON' if is_other else FORM_NAMES[form]}"
+    lines, said = case.get("lines"), page.text("read-as")
+    if lines is None:
+        fault = case["fault"][0].upper() + case["fault"][1:]
+        page.same(f"{name}: fault", said, f"{begin}, and can't be read. {fault}. What stood here stays.")
+        page.same(f"{name}: the text", page.do(TEXT), before)
+        return
+    notes = [f" Note: {it.replace(' (--side admin, --side both)', '')}." for it in case.get("notes", [])]
+    page.same(f"{name}: what it is", said, f"{begin}: read as {len(lines)} tc line{'s' * (len(lines) != 1)}.{''.join(notes)}")
+    page.same(f"{name}: tc lines", page.do(TEXT), "".join(f"{it}\n" for it in lines))
+
+
+def try_imports(page):
+    """Schedules of other forms are read as the package of Python does it: where they are dropped and where they are pasted."""
+    page.choose("windows.schedules")
+    for number, (name, text, case) in enumerate(import_cases()):
+        before = page.do(TEXT)
+        if number % 8 == 0:
+            page.paste(text)
+            time.sleep(0.4)
+            page.settle()
+        else:
+            give(page, "ports.json", text.encode())
+        read_as(page, name, text, case, before)
+    page.browser.shoot(SHOTS / f"{page.browser.name}-imports.png")
+    texts = {name: (text, case) for name, text, case in import_cases()}
+    shown, case = texts["show: one schedule in force"]
+    page.choose("first.script")
+    before = page.do(TEXT)
+    page.do(f"at('text').focus(); at('text').setSelectionRange({before.index('frame') + 3}, {before.index('frame') + 3})")
+    page.paste_here(shown)
+    page.settle()
+    page.same("lines of their own in a script", page.do(TEXT), before.replace("frame", f"fra\n{case['lines'][0]}\nme", 1))
+    page.browser.press("z", control=True)
+    wait_for(page.browser, f"return document.getElementById('text').value === {json.dumps(before)}")
+    page.settle()
+    page.same("nothing is said any more", page.do("return at('read-as').hidden"), True)
+    plain = '# [a note] with {braces} of "kind"\n'
+    page.paste(plain)
+    page.same("what is no schedule", [page.do(TEXT), page.do("return at('read-as').hidden")], [plain, True])
+    page.choose("planned.streams")
+    table, beside = page.do(TEXT), page.do("return at('beside').value")
+    page.paste(shown)
+    page.settle()
+    page.same("a schedule that is pasted into a table", [page.do(TEXT), page.do("return at('beside').value")], [table, with_schedule(beside, case["lines"][0])])
     page.choose("first.script")
 
 
@@ -1562,7 +1825,7 @@ def try_closed(page, server):
     page.do(f"window.told = ''; fetch('{asked}').then(() => (window.told = 'reached'), () => (window.told = 'refused'))")
     wait_for(page.browser, "return window.told !== ''")
     page.same("connection", page.do("return window.told"), "refused")
-    others = [it for it in server.asked if it not in ("/taprio.html", "/favicon.ico")]
+    others = [it for it in server.asked if it not in (f"/{PAGE.name}", "/favicon.ico")]
     page.same("asked for", others, [])
 
 
@@ -1603,17 +1866,17 @@ def try_looks(page):
     shoot(page, "replay")
 
 
-TRIES = [try_examples, try_replay, try_typing, try_options, try_worked, try_faults, try_refused, try_zoom, try_keys, try_micros, try_moments, try_frames, try_reasons, try_why, try_drops, try_tips, try_marks, try_pictures, try_rows, try_shades, try_whole, try_bounds, try_compare,
+TRIES = [try_examples, try_replay, try_typing, try_options, try_worked, try_faults, try_refused, try_zoom, try_keys, try_micros, try_moments, try_frames, try_reasons, try_why, try_drops, try_tips, try_marks, try_pictures, try_rows, try_shades, try_whole, try_bounds, try_compare, try_gates, try_imports,
          try_story, try_tabs, try_kept, try_long, try_files, try_forgotten, try_dates, try_stale, try_live, try_link, try_stop, try_access, try_screens, try_sizes, try_looks]
 
 
-def try_page(kind, address, server):
+def try_page(kind, address, server, tries=TRIES):
     with tempfile.TemporaryDirectory() as downloads:
         browser = kind(downloads)
         try:
             browser.look()
             page = Page(browser, downloads, address)
-            for it in TRIES:
+            for it in tries:
                 it(page)
             try_logged(browser)
             try_closed(page, server)
@@ -1705,15 +1968,19 @@ def main(names):
     SHOTS.mkdir(exist_ok=True)
     program("--help")
     server = Server()
-    places = [PAGE.as_uri(), f"http://127.0.0.1:{server.server_port}/taprio.html"]
-    for kind in (Chromium, Firefox):
-        if names and kind.name not in names:
-            continue
+    places = [PAGE.as_uri(), f"http://127.0.0.1:{server.server_port}/{PAGE.name}"]
+    kinds = [it for it in (Chromium, Firefox) if it.name in names] or [Chromium, Firefox]
+    wanted = [it for it in TRIES if it.__name__.removeprefix("try_") in names]
+    if wanted:
+        for kind in kinds:
+            try_page(kind, places[0], server, wanted)
+        return
+    for kind in kinds:
         for address in places:
             try_page(kind, address, server)
         try_lacking(kind, places[0])
         try_broken(kind)
-    if not names or "firefox" in names:
+    if Firefox in kinds:
         try_dark_firefox(places[0])
     print("bindings/web/test: all is as it should be")
 

@@ -299,12 +299,16 @@ def check(schedules: Octets, rate: int = 1000, windows: bool = False) -> bytes:
     return _one("taprio_check", given, 4 * len(schedules) + 4096)
 
 
-def streams(table: Octets, script: Octets = b"", from_: int = 0) -> bytes:
+def streams(table: Octets, script: Octets = b"", from_: int = 0, late: bool = False) -> bytes:
     """Makes a script with the frames of a table of streams, and with the lines of another script among them.
 
     `from_` is added to each offset: a moment in picoseconds, at most 9223372036854775807000, such as the one at which the schedule of
-    the script comes into force.
+    the script comes into force. The library has no call for `late`, which raises `LibraryMissing`.
     """
+    if late:
+        raise LibraryMissing(
+            "the library has no call for frames that come late: call the program instead with taprio.Program, or name it in TAPRIO_PORT"
+        )
     table, script = octets(table), octets(script)
     given = [table, len(table), script, len(script)]
     guess = 4 * (len(table) + len(script)) + 65536

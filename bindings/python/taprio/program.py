@@ -41,8 +41,8 @@ class Backend(Protocol):
     def check(self, schedules: Octets, rate: int = 1000, windows: bool = False) -> bytes:
         """What schedules keep apart, and their windows."""
 
-    def streams(self, table: Octets, script: Octets = b"", from_: int = 0) -> bytes:
-        """A script with the frames of a table, whose offsets count from `from_`."""
+    def streams(self, table: Octets, script: Octets = b"", from_: int = 0, late: bool = False) -> bytes:
+        """A script with the frames of a table, whose offsets count from `from_`; with `late` each at its latest moment."""
 
     def bounds(
         self, table: Octets, schedules: Octets, rate: int = 1000, mtu: int = 1500, room: int = 128, frames: int = 1_000_000
@@ -159,10 +159,10 @@ class Program:
             raise of_text(status, text, output)
         return output
 
-    def streams(self, table: Octets, script: Octets = b"", from_: int = 0) -> bytes:
+    def streams(self, table: Octets, script: Octets = b"", from_: int = 0, late: bool = False) -> bytes:
         """Makes a script of a table of streams, as `taprio.streams` does."""
         table, script = octets(table), octets(script)
-        words = ["streams", "--with", "script", *([] if from_ == 0 else ["--from", str(number(from_, 128, "from_"))])]
+        words = ["streams", "--with", "script", *([] if from_ == 0 else ["--from", str(number(from_, 128, "from_"))]), *(["--late"] if late else [])]
         return self._with_file(words, "script", script, table)
 
     def bounds(

@@ -112,6 +112,7 @@ def run_streams(
     rate: int = 1000,
     mtu: int = 1500,
     room: int = 128,
+    late: bool = False,
     port: Chosen = None,
 ) -> Run:
     """Runs a schedule with streams of frames from moment 0 to `until_ns`, in nanoseconds; the run has a summary.
@@ -120,13 +121,14 @@ def run_streams(
     in octets, `room` in frames of a class. What runs it is `port`, as `taprio.backend` says.
 
     A schedule with base time 0 comes into force at the start of its second cycle, and before that all gates are open: let the streams
-    begin behind it. `from_ns`, in nanoseconds, is added to the offset of each stream."""
+    begin behind it. `from_ns`, in nanoseconds, is added to the offset of each stream. Each frame of a stream with a jitter comes at its
+    earliest moment, and with `late` at its latest: the program has that, and the library raises `LibraryMissing`."""
     chosen = backend(port)
     for name, value in (("until_ns", until_ns), ("from_ns", from_ns)):
         if index(value) is None:
             raise TypeError(f"{name} is a whole number, not {value!r}")
     until_ns, from_ns = int(until_ns), int(from_ns)
-    script = chosen.streams(_table(streams), b"" if schedule is None else lines(schedule), from_=1000 * from_ns)
+    script = chosen.streams(_table(streams), b"" if schedule is None else lines(schedule), from_=1000 * from_ns, late=late)
     answers = chosen.run(script, rate=rate, mtu=mtu, room=room, until=1000 * until_ns, summary=True)
     return of_answers(answers, script)
 

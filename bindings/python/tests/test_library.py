@@ -400,6 +400,20 @@ class OverTheProgram(Examples, Faults, Room, Bounds, Frames, FramesByStream, Fra
         with self.assertRaisesRegex(taprio.TaprioError, "ended with status 1"):
             taprio.Program("/bin/false").run("")
 
+    def test_late_streams(self):
+        """Each frame at its latest moment: only the program has that, and the library says so."""
+        table = "stream 1 5 60 250us 10us 2 jitter 4us"
+        late = b"clock 14000000\nframe 1 5 60\nclock 264000000\nframe 2 5 60\n"
+        self.assertEqual(self.port.streams(table, late=True), late)
+        self.assertEqual(self.port.streams(table), late.replace(b"14000000", b"10000000").replace(b"264", b"260"))
+        self.assertEqual(self.port.streams(table, "query\n", 5, True), b"query\n" + late.replace(b"000000", b"000005"))
+        stream = taprio.Stream(1, 5, 60, 250_000, 10_000, 2, jitter=4_000)
+        for given, wanted in ((False, [10_000_000, 260_000_000]), (True, [14_000_000, 264_000_000])):
+            run = taprio.run_streams(None, [stream], until_ns=1_000_000, late=given, port=support.PROGRAM)
+            self.assertEqual([it.arrived for it in run.frames], wanted)
+        with self.assertRaisesRegex(taprio.LibraryMissing, "no call for frames that come late: call the program"):
+            taprio.library.streams(table, late=True)
+
 
 class WithoutALibrary(unittest.TestCase):
     def test_what_is_said(self):
