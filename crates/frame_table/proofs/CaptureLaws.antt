@@ -1,5 +1,5 @@
 -- A run on a script and a capture, from what its parts leave.
-use Rattle.std.proofs.Common.{◌≡◌, ℕ, List, length, false, Option, Some, None, Result, Ok, Err, refl, sym, ap, ◌∙◌, subst, ◌++◌, ◌∷◌, append_assoc, []}
+use Rattle.std.proofs.Common.{◌≡◌, ℕ, List, length, false, true, Option, Some, None, Result, Ok, Err, refl, sym, ap, ◌∙◌, subst, ◌++◌, ◌∷◌, append_assoc, []}
 use Rattle.octet_writer.proofs.Fronts.{Appends-nil, sent_none}
 use Rattle.capture.specs.FileHeader.{format_of}
 use Rattle.job.specs.declared.fault.Fault.TheVariants as Faults
@@ -10,14 +10,17 @@ use Rattle.replay.specs.WholeScript.{IsScriptFault}
 use Rattle.replay.specs.declared.faults.ReplayInput.TheVariants as Inputs
 use Rattle.replay.proofs.EndLaws.{no_fault, some_fault}
 use Rattle.replay.proofs.ReplayLaws.{known_at}
+use Rattle.script.specs.Alerts.{Alert, AlertedFront, Alerting}
 use Rattle.script.specs.Setup.{Setup}
+use Rattle.script.proofs.AlertLaws.{alerts_same}
+use Rattle.frame_table.specs.Alerts.{both_alerts, records_alerts}
 use Rattle.frame_table.specs.OfCapture.{frames_read, frames_said, refused}
 use Rattle.capture.specs.declared.writer.TheConstants.{CAPTURE_END}
 use Rattle.replay.specs.declared.cursor.Cursor.{Cursor}
 use Rattle.replay.specs.declared.kept_script.KeptScript.{KeptScript}
 use Rattle.replay.proofs.LineLaws.{all_lines}
 use Rattle.frame_table.proofs.WalkLaws.{begun}
-use Rattle.frame_table.specs.Words.{Asks, Clock, IsSoundPort, Place, Request, Stands, Stream, TakesRecords, Timed, all_requests, before_end, came_from, lines_after, lines_by, lines_left, requests_of, run_end, timed_from, to_run_end, BadLine, CapFault, Command, End, Entry, Fault, Outcome, ReadsAs, Reading, ReplayInput, RunsBoth, RunsOut, TcFault, end_fault, frames_of_capture, is_too_late, run_of_both}
+use Rattle.frame_table.specs.Words.{Asks, Clock, IsSoundPort, Place, Request, Stands, Stream, TakesRecords, Timed, all_requests, before_end, came_from, lines_after, lines_by, lines_left, requests_of, run_end, timed_from, to_run_end, BadLine, CapFault, Command, End, Entry, Fault, Outcome, ReadsAs, Reading, ReplayInput, RunsBoth, RunsOut, TcFault, WatchedRun, capture_alerts, end_fault, frames_of_capture, is_too_late, run_of_both}
 
 -- a call failed before the end of the records is known to be met
 pub both_fail : {fault : Fault BadLine} (entries : List Entry) (last : End) (r : Result (Option (ℕ × CapFault)) (Fault BadLine)) (old new : Option (List ℕ)) (whole : Outcome BadLine) → r ≡ Err fault → RunsOut {T = Unit {0}} (Err fault) old new whole → RunsBoth entries last r old new whole
@@ -39,9 +42,23 @@ both_ended entries last (Err Faults.Read) old new whole none b = b.out
 both_ended entries last (Err Faults.Write) old new whole none b = b.out
 both_ended entries last (Err Faults.Memory) old new whole none b = b.out
 
+-- and what was told then
+pub both_told : {H : Type 0} (alerted : List Alert → H → H → Type 0) (all : List Alert) (entries : List Entry) (last : End) (r : Result (Option (ℕ × CapFault)) (Fault BadLine)) (old new : Option (List ℕ)) (whole : Outcome BadLine) (h k : H) → whole.fault ≡ None → RunsBoth entries last r old new whole
+    → Alerting alerted all r h k → WatchedRun alerted all (run_of_both r) h k
+both_told alerted all entries last (Ok None) old new whole h k none b a = a
+both_told alerted all entries last (Ok (Some (number, fault))) old new whole h k none b a = a
+both_told alerted all entries last (Err (Faults.Input bad)) old new whole h k none b a = absurd (let both : ◌≡◌ {A = Option BadLine} None (Some bad) = sym none ∙ b.out.0 in cc)
+both_told alerted all entries last (Err Faults.Read) old new whole h k none b a = a
+both_told alerted all entries last (Err Faults.Write) old new whole h k none b a = a
+both_told alerted all entries last (Err Faults.Memory) old new whole h k none b a = a
+
 -- out of memory before anything is written
 pub memory_wanting : (old : Option (List ℕ)) (whole : Outcome ReplayInput) → RunsOut {T = Unit {0}} (Err Faults.Memory) old old whole
 memory_wanting old whole = (whole.text, sent_none old whole.text)
+
+-- the moment to run to is too late
+pub told_late : (read : List (List ℕ) → Result Command TcFault) (s : Setup) (lines : List ℕ) (records : Result (List Entry × End) CapFault) → is_too_late s.until ≡ true → capture_alerts read s lines records ≡ []
+told_late read s lines records late = rw late refl
 
 module _ (read : List (List ℕ) → Result Command TcFault) (s : Setup) (lines : List ℕ) (records : Result (List Entry × End) CapFault) (late : is_too_late s.until ≡ false) where
   abbrev reading : Reading
@@ -52,6 +69,12 @@ module _ (read : List (List ℕ) → Result Command TcFault) (s : Setup) (lines 
 
   pub frames_good : reading.fault ≡ None → frames_of_capture read s lines records ≡ frames_read s reading.requests records
   frames_good e = now ∙ ap (λ (f : Option BadLine). frames_said s reading.requests f records) e
+
+  told_now : capture_alerts read s lines records ≡ both_alerts s reading.requests reading.fault records
+  told_now = rw late refl
+
+  pub told_good : reading.fault ≡ None → capture_alerts read s lines records ≡ records_alerts s reading.requests records
+  told_good e = told_now ∙ ap (λ (f : Option BadLine). both_alerts s reading.requests f records) e
 
   -- the script has a fault, or can't be read
   pub script_refused : (fault : Fault ReplayInput) (old : Option (List ℕ)) → IsScriptFault fault reading → RunsOut {T = Unit {0}} (Err fault) old old (frames_of_capture read s lines records)
@@ -80,29 +103,63 @@ module _ (read : List (List ℕ) → Result Command TcFault) (s : Setup) (lines 
   header_refused octets reads good known is (Faults.Input Inputs.Until) old h = absurd h
   header_refused octets reads good known is (Faults.Input (Inputs.Script bad)) old h = absurd h
 
+  -- what is told then: nothing
+  pub told_by_script : {H T : Type 0} (alerted : List Alert → H → H → Type 0) (fault : Fault ReplayInput) (r : Result T (Fault ReplayInput)) (h k : H) → IsScriptFault fault reading → r ≡ Err fault → alerted [] h k → WatchedRun alerted (capture_alerts read s lines records) r h k
+  told_by_script {H} {T} alerted fault r h k f e a = subst (λ (x : Result T (Fault ReplayInput)). WatchedRun alerted (capture_alerts read s lines records) x h k) (sym e) (by fault f)
+    where
+      front : AlertedFront alerted (capture_alerts read s lines records) h k
+      front = record { first = []; rest = capture_alerts read s lines records; alerted_first = a; parts = refl }
+
+      by : (fault : Fault ReplayInput) → IsScriptFault fault reading → WatchedRun {T = T} alerted (capture_alerts read s lines records) (Err fault) h k
+      by (Faults.Input (Inputs.Script bad)) f = alerts_same alerted [] (capture_alerts read s lines records) h k (sym (told_now ∙ ap (λ (f : Option BadLine). both_alerts s reading.requests f records) f)) a
+      by Faults.Read f = front
+      by Faults.Memory f = front
+      by Faults.Write f = absurd f
+      by (Faults.Input Inputs.Until) f = absurd f
+      by (Faults.Input (Inputs.Capture number fault)) f = absurd f
+
+  told_header : (octets : List ℕ) (fault : CapFault) (rs : Result (List Entry × End) CapFault) → ReadsAs octets rs → format_of octets ≡ Err fault → records_alerts s reading.requests rs ≡ []
+  told_header octets fault (Ok x) reads e = absurd (let both = sym reads.1.0 ∙ e in cc)
+  told_header octets fault (Err f) reads e = refl
+
+  pub told_by_header : {H T : Type 0} (alerted : List Alert → H → H → Type 0) (octets : List ℕ) → ReadsAs octets records → reading.fault ≡ None → (known : Option (List ℕ)) → known ≡ Some octets → (fault : Fault ReplayInput) (r : Result T (Fault ReplayInput)) (h k : H) → IsOpenFault known fault → r ≡ Err fault → alerted [] h k
+      → WatchedRun alerted (capture_alerts read s lines records) r h k
+  told_by_header {H} {T} alerted octets reads good known is fault r h k f e a = subst (λ (x : Result T (Fault ReplayInput)). WatchedRun alerted (capture_alerts read s lines records) x h k) (sym e) (by fault f)
+    where
+      front : AlertedFront alerted (capture_alerts read s lines records) h k
+      front = record { first = []; rest = capture_alerts read s lines records; alerted_first = a; parts = refl }
+
+      by : (fault : Fault ReplayInput) → IsOpenFault known fault → WatchedRun {T = T} alerted (capture_alerts read s lines records) (Err fault) h k
+      by (Faults.Input (Inputs.Capture number fault)) f = alerts_same alerted [] (capture_alerts read s lines records) h k (sym (told_good good ∙ told_header octets fault records reads (known_at known octets _ is f.1))) a
+      by Faults.Read f = front
+      by Faults.Memory f = front
+      by Faults.Write f = absurd f
+      by (Faults.Input Inputs.Until) f = absurd f
+      by (Faults.Input (Inputs.Script bad)) f = absurd f
+
 -- ---- what is asked, in parts
 
-module _ (streams : Option (List Stream)) (script : List Request) (entries : List Entry) (until : Option ℕ) where
+module _ {H : Type 0} (alerted : List Alert → H → H → Type 0) (streams : Option (List Stream)) (script : List Request) (entries : List Entry) (until : Option ℕ) where
   -- what comes after the records
   abbrev pub behind_records : List Request
   behind_records = to_run_end until (requests_of (lines_after (timed_from 0 script) (came_from 0 0 entries)))
 
   -- before the first record
-  pub begun_both : (x : Place) → IsSoundPort x.port → Stands streams x (all_requests script entries until) (before_end (timed_from 0 script) (came_from 0 0 entries) ++ behind_records) x
-  begun_both x sound =
+  pub begun_both : ((s : H) → alerted [] s s) → (x : Place H) → IsSoundPort x.port → Stands alerted streams x (all_requests script entries until) (before_end (timed_from 0 script) (came_from 0 0 entries) ++ behind_records) x
+  begun_both nothing x sound =
       let xs = before_end (timed_from 0 script) (came_from 0 0 entries) in
       let ys = requests_of (lines_after (timed_from 0 script) (came_from 0 0 entries)) in
-      subst (λ rs. Stands streams x (all_requests script entries until) rs x) (append_assoc xs ys (Asks (Clock (run_end until)) ∷ [])) (begun streams (all_requests script entries until) x sound)
+      subst (λ rs. Stands alerted streams x (all_requests script entries until) rs x) (append_assoc xs ys (Asks (Clock (run_end until)) ∷ [])) (begun alerted streams nothing (all_requests script entries until) x sound)
 
   -- after the last
-  pub records_taken : (last : End) (lines : List Timed) (broken : Option (ℕ × CapFault)) (x y : Place) → IsSoundPort x.port → TakesRecords streams entries last (timed_from 0 script) lines (Ok broken) x y
-      → Stands streams x (all_requests script entries until) (to_run_end until (requests_of lines)) y
-  records_taken last lines broken x y sound taken =
-      subst (λ (ls : List Timed). Stands streams x (all_requests script entries until) (to_run_end until (requests_of ls)) y) (sym taken.left) (taken.rows x (all_requests script entries until) behind_records (begun_both x sound))
+  pub records_taken : ((s : H) → alerted [] s s) → (last : End) (lines : List Timed) (broken : Option (ℕ × CapFault)) (x y : Place H) → IsSoundPort x.port → TakesRecords alerted streams entries last (timed_from 0 script) lines (Ok broken) x y
+      → Stands alerted streams x (all_requests script entries until) (to_run_end until (requests_of lines)) y
+  records_taken nothing last lines broken x y sound taken =
+      subst (λ (ls : List Timed). Stands alerted streams x (all_requests script entries until) (to_run_end until (requests_of ls)) y) (sym taken.left) (taken.rows x (all_requests script entries until) behind_records (begun_both nothing x sound))
 
 -- no line that is kept is after the last moment that a capture can say
-module _ {A : Type 0} (streams : Option (List Stream)) (read : List (List ℕ) → Result Command TcFault) (script : KeptScript A) (cursor : Cursor) (until : Option ℕ) (first : Place) (all : List Request) (x : Place) where
-  pub every_line : Stands streams first all (to_run_end until (requests_of (lines_left read script cursor))) x → Stands streams first all (requests_of (lines_by CAPTURE_END (lines_left read script cursor)) ++ Asks (Clock (run_end until)) ∷ []) x
+module _ {A H : Type 0} (alerted : List Alert → H → H → Type 0) (streams : Option (List Stream)) (read : List (List ℕ) → Result Command TcFault) (script : KeptScript A) (cursor : Cursor) (until : Option ℕ) (first : Place H) (all : List Request) (x : Place H) where
+  pub every_line : Stands alerted streams first all (to_run_end until (requests_of (lines_left read script cursor))) x → Stands alerted streams first all (requests_of (lines_by CAPTURE_END (lines_left read script cursor)) ++ Asks (Clock (run_end until)) ∷ []) x
   every_line st =
       let every = all_lines read script.octets.items script.lines.items cursor.at cursor.clock script.kept cursor.early in
-      subst (λ (ls : List Timed). Stands streams first all (requests_of ls ++ Asks (Clock (run_end until)) ∷ []) x) (sym every) st
+      subst (λ (ls : List Timed). Stands alerted streams first all (requests_of ls ++ Asks (Clock (run_end until)) ∷ []) x) (sym every) st

@@ -3,6 +3,7 @@ pub mod RunLaws
 pub mod RowLaws
 pub mod ArrivalLaws
 pub mod LineSteps
+pub mod AskedLaws
 pub mod RowWalkLaws
 pub mod WalkLaws
 pub mod RecordWalk
@@ -11,6 +12,7 @@ pub mod LeftLaws
 pub mod OnceLaws
 pub mod ToldLaws
 pub mod TableLaws
+pub mod TableAlerts
 pub mod JoinLaws
 pub mod MappedLaws
 pub mod MappedText

@@ -12,7 +12,7 @@ use Rattle.job.proofs.LineLaws.{behind, done}
 use Rattle.job.proofs.RunEndLaws.{input_out}
 use Rattle.script.specs.Outcome.{asked_with, with_line}
 use Rattle.script.proofs.LineSteps.{StandsFor, stands_for_itself, stands-after, event-answers}
-use Rattle.frame_table.specs.Words.{AbstractPort, Advances, Arrival, Arrive, Asks, BadLine, Clock, Command, Count, Event, FallsShort, Fault, FrameRow, Install, IsSoundPort, NoCommand, Outcome, Query, Reading, Request, Runs, RunsOut, Script, ScriptFault, Steps, Stream, TcFault, answers_to, arrival_at, arrives, asked_in, bad_line, departs, ending_text, events_of, left_rows, long_line, reading_of, request_of, responses_to, rows_at, rows_of, rows_text, settled, starts_in, table_after, table_by, table_from, table_unless, tc_request}
+use Rattle.frame_table.specs.Words.{AbstractPort, Advances, Arrival, Arrive, Asks, BadLine, Clock, Command, Count, Event, FallsShort, Fault, FrameRow, Install, IsSoundPort, NoCommand, Outcome, Query, Reading, Request, Runs, RunsOut, Script, ScriptFault, Steps, Stream, TcFault, answers_to, arrival_at, arrives, asked_in, bad_line, departs, ending_text, events_of, left_rows, long_line, reading_of, request_of, responses_to, rows_at, rows_by, rows_of, rows_text, settled, starts_in, table_after, table_by, table_from, table_unless, tc_request}
 use Rattle.frame_table.proofs.RowLaws.{rows-append}
 use Rattle.frame_table.proofs.RunLaws.{stops_in}
 
@@ -20,19 +20,14 @@ use Rattle.frame_table.proofs.RunLaws.{stops_in}
 abbrev Rows : Type 0
 Rows = List FrameRow × List (List Arrival)
 
--- the rows of a request; a line that begins with tc and is no command has none
-abbrev pub rows_by : Request → AbstractPort → List (List Arrival) → Rows
-rows_by (Asks event) p w = rows_at event p w
-rows_by (NoCommand fault) p w = ([], w)
-
--- nor has a line that begins with tc
+-- a line that begins with tc has no row
 pub rows-tc : (c : Result Command TcFault) (p : AbstractPort) (w : List (List Arrival)) → rows_by (tc_request c) p w ≡ ([], w)
 rows-tc (Ok command) p w = refl
 rows-tc (Err fault) p w = refl
 
 -- ---- the table of one request more
 
-asked-more : (until : Option ℕ) (r : Request) (requests : List Request) (fault : Option BadLine) → asked_with until (r ∷ requests) fault ≡ r ∷ asked_with until requests fault
+pub asked-more : (until : Option ℕ) (r : Request) (requests : List Request) (fault : Option BadLine) → asked_with until (r ∷ requests) fault ≡ r ∷ asked_with until requests fault
 asked-more until r requests None = refl
 asked-more until r requests (Some fault) = refl
 

@@ -2,13 +2,14 @@
 use Rattle.std.proofs.Common.{◌≡◌, ◌<◌, Bool, ℕ, List, [], ◌∷◌, ◌++◌, Option, Result, Ok, Err, OnOk, true, false, ◌||◌, ltb, refl, sym, ap, ◌∙◌, subst, append-nil}
 use Rattle.std.proofs.lemmas.Bool.{lt-ltb}
 use Rattle.std.proofs.lemmas.Grind.{flat_map-append}
+use Rattle.std.specs.List.{flat_map}
 use Rattle.octet_writer.specs.declared.WriteFault.{WriteFault}
 use Rattle.abstract_port.specs.declared.Answer.{Answer}
 use Rattle.abstract_port.specs.declared.Answer.TheVariants as Answered
 use Rattle.abstract_port.specs.declared.Start.{Start}
 use Rattle.abstract_port.proofs.RunLaws.{clock_by}
 use Rattle.script.proofs.StartsLaws.{settled-sound}
-use Rattle.frame_table.specs.Words.{AbstractPort, Arrival, Clock, Event, FrameRow, IsAfter, IsSoundPort, Stream, Writes, departs, first_came, goes, greatest_moment, row_line, rows_text, sent_row, settled, starts_in}
+use Rattle.frame_table.specs.Words.{AbstractPort, Arrival, Clock, Event, FrameRow, IsAfter, IsSoundPort, Stream, Writes, departs, first_came, goes, greatest_moment, row_line, rows_at, rows_text, sent_row, settled, starts_in}
 
 pub rows-append : (streams : Option (List Stream)) (xs ys : List FrameRow) → rows_text streams (xs ++ ys) ≡ rows_text streams xs ++ rows_text streams ys
 rows-append streams xs ys = flat_map-append (row_line streams) xs ys
@@ -32,11 +33,11 @@ one_start answers rest s w v e f =
     ap (λ a. departs (starts_in a) w) (sym e)
     ∙ ap (λ x. (sent_row s (first_came s.class w) ++ (departs (starts_in rest) x).0, (departs (starts_in rest) x).1)) (sym f)
 
--- its text
-pub start_first : (streams : Option (List Stream)) (answers rest : List Answer) (s : Start) (w v : List (List Arrival)) → Answered.Start s ∷ rest ≡ answers → v ≡ goes s.class w
-    → rows_text streams (departs (starts_in answers) w).0 ≡ rows_text streams (sent_row s (first_came s.class w)) ++ rows_text streams (departs (starts_in rest) v).0
-start_first streams answers rest s w v e f =
-    ap (λ (r : List FrameRow × List (List Arrival)). rows_text streams r.0) (one_start answers rest s w v e f) ∙ rows-append streams (sent_row s (first_came s.class w)) (departs (starts_in rest) v).0
+-- what its row gives, as its text
+pub start_first : {X : Type 0} (f : FrameRow → List X) (answers rest : List Answer) (s : Start) (w v : List (List Arrival)) → Answered.Start s ∷ rest ≡ answers → v ≡ goes s.class w
+    → flat_map f (departs (starts_in answers) w).0 ≡ flat_map f (sent_row s (first_came s.class w)) ++ flat_map f (departs (starts_in rest) v).0
+start_first f answers rest s w v e is =
+    ap (λ (r : List FrameRow × List (List Arrival)). flat_map f r.0) (one_start answers rest s w v e is) ∙ flat_map-append f (sent_row s (first_came s.class w)) (departs (starts_in rest) v).0
 
 -- what waits after all of them
 pub start_then : (answers rest : List Answer) (s : Start) (w v : List (List Arrival)) → Answered.Start s ∷ rest ≡ answers → v ≡ goes s.class w
@@ -49,6 +50,15 @@ any_or_true true = refl
 any_or_true false = refl
 
 module _ (m : ℕ) (p : AbstractPort) (w : List (List Arrival)) where
+  no_row : (ltb m p.now || ltb greatest_moment m) ≡ true → (rows_at (Clock m) p w).0 ≡ []
+  no_row back = ap (λ b. (departs (starts_in (clock_by b m p).0) w).0) back
+
+  pub no_row_back : m < p.now → (rows_at (Clock m) p w).0 ≡ []
+  no_row_back less = no_row (ap (λ b. b || ltb greatest_moment m) (lt-ltb m p.now less))
+
+  pub no_row_too_far : greatest_moment < m → (rows_at (Clock m) p w).0 ≡ []
+  no_row_too_far more = no_row (ap (λ b. ltb m p.now || b) (lt-ltb greatest_moment m more) ∙ any_or_true (ltb m p.now))
+
   refused : (ltb m p.now || ltb greatest_moment m) ≡ true → IsSoundPort p → IsAfter {T = Unit {0}} {E = WriteFault} (Clock m) (Ok tt) p w p w
   refused back sound = record {
     port = sym (settled-sound p sound) ∙ ap settled (sym (ap (λ b. (clock_by b m p).1) back));

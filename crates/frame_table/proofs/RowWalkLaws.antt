@@ -26,8 +26,8 @@ use Rattle.script.proofs.LineSteps.{stands_after_all, stands_for_itself}
 use Rattle.script.proofs.OutputLaws.{events-more}
 use Rattle.wire_time.specs.declared.Frame.{Frame}
 use Rattle.frame_table.specs.ToldRows.{Kept, RowedFront, RowsThen, rows-both, rows_of_told}
-use Rattle.frame_table.specs.Words.{AbstractPort, Arrival, Arrive, Asks, BadLine, Clock, Count, Fault, Install, IsSoundPort, NoCommand, Query, Reading, Request, RunsOut, Stream, Writes, arrival_at, arrives, departs, ending_text, events_of, first_came, goes, greatest_moment, left_rows, responses_to, rows_at, rows_text, sent_row, starts_in, table_after}
-use Rattle.frame_table.proofs.LineSteps.{rows_by, same-ending, table-more}
+use Rattle.frame_table.specs.Words.{AbstractPort, Arrival, Arrive, Asks, BadLine, Clock, Count, Fault, Install, IsSoundPort, NoCommand, Query, Reading, Request, RunsOut, Stream, Writes, arrival_at, arrives, departs, ending_text, events_of, first_came, goes, greatest_moment, left_rows, responses_to, rows_at, rows_by, rows_text, sent_row, starts_in, table_after}
+use Rattle.frame_table.proofs.LineSteps.{same-ending, table-more}
 use Rattle.frame_table.proofs.RowLaws.{rows-append}
 use Rattle.frame_table.proofs.RunLaws.{front_on}
 

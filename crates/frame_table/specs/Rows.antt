@@ -8,6 +8,7 @@ use Rattle.abstract_port.specs.declared.Dropped.{Dropped}
 use Rattle.abstract_port.specs.declared.Event.{Event}
 use Rattle.abstract_port.specs.declared.Event.TheVariants.{Arrive, Install, Clock, Query, Count}
 use Rattle.abstract_port.specs.declared.Start.{Start}
+use Rattle.script.specs.Requests.{Request, Asks, NoCommand}
 use Rattle.frame_table.specs.Waits.{comes, first_came, goes, waiting_in}
 use Rattle.frame_table.specs.declared.rows.Arrival.{Arrival}
 use Rattle.frame_table.specs.declared.rows.Fate.TheVariants.{Sent, Left, Lost}
@@ -42,6 +43,11 @@ rows_at (Clock m) p w = departs (starts_in (answers_to (Clock m) p).0) w
 rows_at (Install c) p w = ([], w)
 rows_at Query p w = ([], w)
 rows_at (Count class) p w = ([], w)
+
+-- the rows of a request, and what waits then; a line that begins with tc and is no command has none
+abbrev pub rows_by : Request → AbstractPort → List (List Arrival) → List FrameRow × List (List Arrival)
+rows_by (Asks event) p w = rows_at event p w
+rows_by (NoCommand fault) p w = ([], w)
 
 -- 2. A run
 

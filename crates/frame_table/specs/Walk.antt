@@ -1,4 +1,4 @@
--- A run that takes requests, one after another: where it stands, and what is still to be written.
+-- A run that takes requests, one after another: where it stands, and what is still to be written and told.
 use Rattle.std.specs.Prelude.{◌≡◌, ◌++◌, ℕ, List, Option, None, Result, Ok, Err, IfOk, OnOk}
 use Rattle.abstract_port.specs.AbstractPort.{AbstractPort}
 use Rattle.abstract_port.specs.Sound.{IsSoundPort}
@@ -10,43 +10,59 @@ use Rattle.job.specs.declared.fault.Fault.{Fault}
 use Rattle.octet_writer.specs.Writes.{Sent}
 use Rattle.replay.specs.Merge.{Timed, before_end, came_from, lines_after}
 use Rattle.replay.specs.RecordsLeft.{EndsSo}
+use Rattle.script.specs.Alerts.{Alert, Alerting}
 use Rattle.script.specs.Requests.{Request}
 use Rattle.script.specs.declared.faults.BadLine.{BadLine}
+use Rattle.script.proofs.AlertLaws.{HasAlerted}
+use Rattle.frame_table.specs.Alerts.{asked_alerts}
 use Rattle.frame_table.specs.Outcome.{table_by}
 use Rattle.frame_table.specs.declared.rows.Arrival.{Arrival}
 use Rattle.traffic.specs.declared.table.Stream.{Stream}
 
--- where a run stands: a port, what waits on it, and what the writer has got
-pub record Place : Type 0 where
+-- where a run stands: a port, what waits on it, what the writer has got, and who watches
+pub record Place (H : Type 0) : Type 0 where
   pub port : AbstractPort
   pub waiting : List (List Arrival)
   pub got : Option (List ℕ)
+  pub watch : H
 
-abbrev pub place : AbstractPort → List (List Arrival) → Option (List ℕ) → Place
-place port waiting got = record { port = port; waiting = waiting; got = got }
+abbrev pub place : {H : Type 0} → AbstractPort → List (List Arrival) → Option (List ℕ) → H → Place H
+place port waiting got watch = record { port = port; waiting = waiting; got = got; watch = watch }
 
-module _ (streams : Option (List Stream)) where
+module _ {H : Type 0} (streams : Option (List Stream)) where
   -- the table of requests from a place, which no fault ends
-  abbrev pub table_at : List Request → Place → Outcome BadLine
+  abbrev pub table_at : List Request → Place H → Outcome BadLine
   table_at requests x = table_by streams requests None x.port x.waiting
 
-  -- Of the table of all requests from a first place so much is written that the table of those that are left, from here on, is still to come.
-  pub record Stands (first : Place) (all left : List Request) (here : Place) : Type 0 where
-    pub sent : Sent first.got here.got (table_at all first).text (table_at left here).text
+  -- what is told of them
+  abbrev pub alerts_at : List Request → Place H → List Alert
+  alerts_at requests x = asked_alerts streams requests None x.port x.waiting
+
+module _ {H : Type 0} (alerted : List Alert → H → H → Type 0) (streams : Option (List Stream)) where
+  -- Of the table of all requests from a first place so much is written that the table of those that are left, from here on, is still to come; and so it is
+  -- with what is told.
+  pub record Stands (first : Place H) (all left : List Request) (here : Place H) : Type 0 where
+    pub sent : Sent first.got here.got (table_at streams all first).text (table_at streams left here).text
+    pub told : HasAlerted alerted (alerts_at streams all first) (alerts_at streams left here) first.watch here.watch
     pub sound : IsSoundPort here.port
 
-  -- at Ok a run stands here, and this is left; at a fault a prefix of its table is written
-  abbrev pub GoesOn : {T : Type 0} → Result T (Fault BadLine) → Place → (all left : List Request) → Place → Type 0
+  -- a run ends here: the whole table is written, and all is told; at a fault a prefix of both
+  pub record EndsHere {T : Type 0} (r : Result T (Fault BadLine)) (first : Place H) (all : List Request) (here : Place H) : Type 0 where
+    pub out : RunsOut r first.got here.got (table_at streams all first)
+    pub told : Alerting alerted (alerts_at streams all first) r first.watch here.watch
+
+  -- at Ok a run stands here, and this is left; at a fault it ends here
+  abbrev pub GoesOn : {T : Type 0} → Result T (Fault BadLine) → Place H → (all left : List Request) → Place H → Type 0
   GoesOn (Ok x) first all left here = Stands first all left here
-  GoesOn (Err fault) first all left here = RunsOut {T = Unit {0}} (Err fault) first.got here.got (table_at all first)
+  GoesOn (Err fault) first all left here = EndsHere {T = Unit {0}} (Err fault) first all here
 
   -- a call takes these requests: any run that stood at one place goes on at another, whatever comes after them
-  abbrev pub Carries : {T : Type 0} → Result T (Fault BadLine) → List Request → Place → Place → Type 0
-  Carries r requests from to = (first : Place) (all rest : List Request) → Stands first all (requests ++ rest) from → GoesOn r first all rest to
+  abbrev pub Carries : {T : Type 0} → Result T (Fault BadLine) → List Request → Place H → Place H → Type 0
+  Carries r requests from to = (first : Place H) (all rest : List Request) → Stands first all (requests ++ rest) from → GoesOn r first all rest to
 
   -- The records of a capture have come to this end: the fault that is found is the end's, the lines that are left are those after the last record, and what
   -- comes up to it is taken.
-  pub record TakesRecords (entries : List Entry) (last : End) (all lines : List Timed) (r : Result (Option (ℕ × CapFault)) (Fault BadLine)) (from to : Place) : Type 0 where
+  pub record TakesRecords (entries : List Entry) (last : End) (all lines : List Timed) (r : Result (Option (ℕ × CapFault)) (Fault BadLine)) (from to : Place H) : Type 0 where
     pub ending : IfOk r (EndsSo entries last)
     pub left : OnOk r (lines ≡ lines_after all (came_from 0 0 entries))
     pub rows : Carries r (before_end all (came_from 0 0 entries)) from to

@@ -1,7 +1,7 @@
 //! The table of the frames of a script with the stream of each, by a table of streams.
 
 ghost use Rattle.std.specs.Prelude.{◌≡◌, ℕ, IfSome, List, Result};
-ghost use Rattle.frame_table.specs.Words.{Command, IsReader, RunsOut, TcFault, frames_by, frames_by_stream, frames_in, ids_table, of_script, script_input, script_left, script_run};
+ghost use Rattle.frame_table.specs.Words.{Command, IsReader, IsWatchedByStream, RunsOut, TcFault, WatchedRun, alerts_in, frames_alerts, frames_by, frames_by_stream, frames_in, ids_table, of_script, script_input, script_left, script_run};
 
 use crate::streams::Streams;
 use crate::table_run::run_with;
@@ -41,8 +41,10 @@ fn put_with<A: Allocator, B: Allocator, R: Read + Drop, W: Write, H: Watch>(
     settings: Settings,
     watch: &mut H,
 ) -> Result<(), StreamsFault>
-    ensures { (read : List (List ℕ) → Result Command TcFault) → IsReader read → IfSome (R.remaining reader) (λ input.
+    ensures table { (read : List (List ℕ) → Result Command TcFault) → IsReader read → IfSome (R.remaining reader) (λ input.
         RunsOut result (W.contents writer.old) (W.contents writer.new) (of_script (frames_by streams.now read settings input))) }
+    ensures alerts { (read : List (List ℕ) → Result Command TcFault) → IsReader read → IfSome (R.remaining reader) (λ input.
+        WatchedRun H.alerted (frames_alerts streams.now read settings input) result watch.old watch.new) }
 {
     let run = run_with(alloc, streams, reader, writer, settings, watch);
     script_run(run)
@@ -57,9 +59,12 @@ fn put_by_stream<A: Allocator, B: Allocator, R: Read + Drop, S: Read + Drop, W: 
     settings: Settings,
     watch: &mut H,
 ) -> Result<(), StreamsFault>
-    ensures { (read : List (List ℕ) → Result Command TcFault) → IsReader read
+    ensures table { (read : List (List ℕ) → Result Command TcFault) → IsReader read
         → IfSome (script_left S.remaining table.old) (λ streams. IfSome (R.remaining reader) (λ input.
         RunsOut result (W.contents writer.old) (W.contents writer.new) (frames_in (ids_table streams) read settings input))) }
+    ensures alerts { (read : List (List ℕ) → Result Command TcFault) → IsReader read
+        → IfSome (script_left S.remaining table.old) (λ streams. IfSome (R.remaining reader) (λ input.
+        WatchedRun H.alerted (alerts_in streams read settings input) result watch.old watch.new)) }
 {
     let mut streams = Streams::new(alloc);
     match read_table(table, &mut streams, watch) {
@@ -78,8 +83,8 @@ fn put_by_stream<A: Allocator, B: Allocator, R: Read + Drop, S: Read + Drop, W: 
 /// the frame was dropped. Of a frame that is left the field is empty, and so it is where its stream has no deadline.
 ///
 /// A malformed line of the table of streams is the fault, and nothing is written. What is kept is that table, and the
-/// frames that wait. Who watches is called for each stream, and for each frame that is late, dropped or left, and whose
-/// stream has a deadline. Else it is as with `run_frames`.
+/// frames that wait. Who watches is called for each stream, and for each frame whose stream has a deadline, behind its
+/// row: whether it is in time. Else it is as with `run_frames`.
 pub fn run_frames_by_stream<A: Allocator, R: Read + Drop, S: Read + Drop, W: Write, H: Watch>(
     alloc: A,
     table: S,
@@ -88,9 +93,10 @@ pub fn run_frames_by_stream<A: Allocator, R: Read + Drop, S: Read + Drop, W: Wri
     settings: Settings,
     watch: &mut H,
 ) -> Result<(), StreamsFault>
-    ensures { (read : List (List ℕ) → Result Command TcFault) → IsReader read
+    ensures table { (read : List (List ℕ) → Result Command TcFault) → IsReader read
         → IfSome (S.remaining table) (λ streams. IfSome (R.remaining reader) (λ input.
         RunsOut result (W.contents writer.old) (W.contents writer.new) (frames_by_stream read settings streams input))) }
+    ensures watched { IsWatchedByStream H.alerted settings (S.remaining table) (R.remaining reader) result watch.old watch.new }
 {
     let mut lines = LineReader::new(&alloc, table)?;
     put_by_stream(&alloc, &mut lines, reader, writer, settings, watch)

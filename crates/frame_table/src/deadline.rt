@@ -1,6 +1,7 @@
 //! Whether a frame is in time for the deadline of its stream.
 
 ghost use Rattle.std.specs.Prelude.{◌≡◌, ◌++◌, codes};
+ghost use Rattle.frame_table.specs.Alerts.{judged_of};
 ghost use Rattle.frame_table.specs.Deadline.{deadline_word, missed, word_by, word_of};
 ghost use Rattle.frame_table.specs.RowText.{deadline_text};
 
@@ -66,7 +67,9 @@ pub(crate) fn deadline_text(
 }
 
 /// Calls who watches for a frame whose stream has a deadline: whether it is in time.
-pub(crate) fn tell_judged<H: Watch>(stream: &Option<Stream>, row: &FrameRow, watch: &mut H) {
+pub(crate) fn tell_judged<H: Watch>(stream: &Option<Stream>, row: &FrameRow, watch: &mut H)
+    ensures { H.alerted (judged_of stream.now row.now) watch.old watch.new }
+{
     let Some(stream) = stream else {
         return;
     };

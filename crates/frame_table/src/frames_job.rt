@@ -2,7 +2,7 @@
 
 ghost use Rattle.std.specs.Prelude.{◌≡◌, IfErr};
 ghost use Rattle.octet_writer.specs.Buffered.{writer_contents};
-ghost use Rattle.frame_table.specs.Alerts.{IsWatchedEnding};
+ghost use Rattle.frame_table.specs.Alerts.{IsWatchedByStreamEnding, IsWatchedCaptureEnding, IsWatchedEnding};
 ghost use Rattle.frame_table.specs.Words.{IsByStreamEnding, IsCaptureEnding, IsEnding, greatest_moment, settings_given, whole_frames, words_of_values};
 
 use crate::by_stream::run_frames_by_stream;
@@ -61,7 +61,8 @@ pub fn answer_frames_of_capture<
     errors: &mut E,
     watch: &mut H,
 ) -> (Ended, W)
-    ensures { IsCaptureEnding settings (R.remaining reader.old) (S.remaining capture) result.0 (writer_contents W.contents answers) (W.contents result.1) (E.contents errors.old) (E.contents errors.new) }
+    ensures watched { IsWatchedCaptureEnding H.alerted settings (R.remaining reader.old) (S.remaining capture) result.0 watch.old watch.new }
+    ensures ending { IsCaptureEnding settings (R.remaining reader.old) (S.remaining capture) result.0 (writer_contents W.contents answers) (W.contents result.1) (E.contents errors.old) (E.contents errors.new) }
 {
     let run = run_frames_of_capture(alloc, reader, capture, &mut answers, settings, watch);
     end_run(run, answers, errors)
@@ -86,7 +87,8 @@ pub fn answer_frames_by_stream<
     errors: &mut E,
     watch: &mut H,
 ) -> (Ended, W)
-    ensures { IsByStreamEnding settings (S.remaining table) (R.remaining reader.old) result.0 (writer_contents W.contents answers) (W.contents result.1) (E.contents errors.old) (E.contents errors.new) }
+    ensures watched { IsWatchedByStreamEnding H.alerted settings (S.remaining table) (R.remaining reader.old) result.0 watch.old watch.new }
+    ensures ending { IsByStreamEnding settings (S.remaining table) (R.remaining reader.old) result.0 (writer_contents W.contents answers) (W.contents result.1) (E.contents errors.old) (E.contents errors.new) }
 {
     let run = run_frames_by_stream(alloc, table, reader, &mut answers, settings, watch);
     end_run(run, answers, errors)

@@ -3,6 +3,8 @@
 ghost use Rattle.std.specs.Prelude.{◌≡◌};
 ghost use Rattle.octet_writer.specs.Writes.{Writes};
 ghost use Rattle.answer_text.specs.Part.{text_of};
+ghost use Rattle.script.specs.Alerts.{Alerting};
+ghost use Rattle.frame_table.specs.Alerts.{judged_row};
 ghost use Rattle.frame_table.specs.StreamOf.{stream_by};
 ghost use Rattle.frame_table.specs.RowText.{end_text, fate_text, has_column, head_line, number_text, row_line, start_text, stream_comma, stream_text, wait_text};
 
@@ -198,20 +200,19 @@ pub(crate) fn write_row<A: Allocator, W: Write>(
     put_fields(streams, &stream, writer, row)
 }
 
-/// Writes a row, and calls who watches where its frame has a deadline and isn't in time. At a fault a prefix of it is
-/// written.
+/// Writes a row, and calls who watches where the stream of its frame has a deadline. At a fault a prefix of it is
+/// written, and nobody is called.
 pub(crate) fn put_row<A: Allocator, W: Write, H: Watch>(
     streams: &Option<Streams<A>>,
     writer: &mut W,
     row: &FrameRow,
     watch: &mut H,
 ) -> Result<(), WriteFault>
-    ensures { Writes result (W.contents writer.old) (W.contents writer.new) (row_line streams.now row.now) }
+    ensures text { Writes result (W.contents writer.old) (W.contents writer.new) (row_line streams.now row.now) }
+    ensures alerts { Alerting H.alerted (judged_row streams.now row.now) result watch.old watch.new }
 {
     let stream = stream_by(streams, row.arrival.id);
-    let written = put_fields(streams, &stream, writer, row);
-    if written.is_ok() {
-        tell_judged(&stream, row, watch);
-    }
-    written
+    put_fields(streams, &stream, writer, row)?;
+    tell_judged(&stream, row, watch);
+    Ok(())
 }

@@ -2,6 +2,7 @@
 
 ghost use Rattle.std.specs.Prelude.{◌≡◌, ◌++◌, ◌∷◌, [], OnOk};
 ghost use Rattle.frame_table.specs.Deadline.{has_deadlines};
+ghost use Rattle.traffic.specs.Alerts.{stream_alert};
 ghost use Rattle.frame_table.specs.StreamOf.{has_frame, stream_by, stream_in, with_ids};
 
 use script::{ScriptFault, Watch};
@@ -114,6 +115,8 @@ impl<A: Allocator> StreamTaker for Streams<A> {
     ghost judge = { λ streams. with_ids };
 
     ghost taken = { λ streams. streams };
+
+    ghost tells = { stream_alert };
 
     fn take<H: Watch>(
         &mut self,

@@ -1,12 +1,9 @@
 //! Runs a script, and writes the table of its frames.
 
-ghost use Rattle.std.specs.Prelude.{◌≡◌, ◌<◌, ◌≤◌, ℕ, IfSome, List, Result, false, map};
-ghost use Rattle.frame_table.specs.Alerts.{IsWatchedFrames};
-ghost use Rattle.frame_table.specs.RowText.{has_column};
-ghost use Rattle.script.specs.Alerts.{Watched, alerts_of};
-ghost use Rattle.script.specs.Outcome.{reading_of};
-ghost use Rattle.script.specs.Told.{told_of};
-ghost use Rattle.frame_table.specs.Words.{Arrive, Clock, Command, IsAfter, IsReader, IsSoundPort, Runs, RunsOut, TcFault, Writes, ending_text, first_came, frames_by, frames_of, goes, greatest_moment, left_row, left_rows, responses_to, rows_at, rows_told, rows_text, script_left, sent_row, settled, table_from, tc_request, waiting_in, with_head, words_of};
+ghost use Rattle.std.specs.Prelude.{◌≡◌, ◌<◌, ◌≤◌, ℕ, IfSome, List, None, Result, map};
+ghost use Rattle.script.specs.Alerts.{Alerting, alerts_of, refused_alert};
+ghost use Rattle.script.specs.Told.{told_to};
+ghost use Rattle.frame_table.specs.Words.{Arrive, Asks, Clock, Command, IsAfter, IsReader, IsSoundPort, IsWatchedFrames, Runs, RunsOut, TcFault, WatchedRun, Writes, alerts_from, ending_alerts, ending_text, first_came, frames_by, frames_of, goes, greatest_moment, judged_rows, left_row, left_rows, request_alerts, responses_to, rows_at, rows_told, rows_text, script_left, sent_row, settled, table_from, tc_request, waiting_in, with_head, words_of};
 
 use crate::arrivals::Arrivals;
 use crate::row_writer::{RowWriter, walk_rows};
@@ -32,6 +29,7 @@ fn take_frame<A: Allocator + Clone, B: Allocator, W: Write, H: Watch>(
     watch: &mut H,
 ) -> Result<(), RunFault>
     ensures text { Runs result (W.contents writer.old) (W.contents writer.new) (rows_told streams.now (Arrive frame.now) port.old.port arrivals.old) }
+    ensures alerts { Alerting H.alerted (request_alerts streams.now (Asks (Arrive frame.now)) port.old.port arrivals.old) result watch.old watch.new }
     ensures after { IsAfter (Arrive frame.now) result port.old.port arrivals.old port.new.port arrivals.new }
 {
     let now = port.now();
@@ -74,6 +72,7 @@ fn put_sent<A: Allocator, B: Allocator, W: Write, H: Watch>(
     watch: &mut H,
 ) -> Result<(), WriteFault>
     ensures text { Writes result (W.contents writer.old) (W.contents writer.new) (rows_text streams.now (sent_row start.now (first_came start.now.class arrivals.old))) }
+    ensures alerts { Alerting H.alerted (judged_rows streams.now (sent_row start.now (first_came start.now.class arrivals.old))) result watch.old watch.new }
     ensures waiting { arrivals.new ≡ goes start.now.class arrivals.old }
 {
     match arrivals.take(start.class) {
@@ -104,6 +103,7 @@ fn take_starts<A: Allocator, B: Allocator, W: Write, H: Watch>(
     requires later { port.old.port.now ≤ until }
     requires within { until ≤ greatest_moment }
     ensures text { Writes result (W.contents writer.old) (W.contents writer.new) (rows_text streams.now (rows_at (Clock until) port.old.port arrivals.old).0) }
+    ensures alerts { Alerting H.alerted (judged_rows streams.now (rows_at (Clock until) port.old.port arrivals.old).0) result watch.old watch.new }
     ensures after { IsAfter (Clock until) result port.old.port arrivals.old port.new.port arrivals.new }
 {
     // For the prover: a call on a port says what holds of every port.
@@ -124,6 +124,7 @@ fn take_clock<A: Allocator, B: Allocator, W: Write, H: Watch>(
     watch: &mut H,
 ) -> Result<(), WriteFault>
     ensures text { Writes result (W.contents writer.old) (W.contents writer.new) (rows_text streams.now (rows_at (Clock until) port.old.port arrivals.old).0) }
+    ensures alerts { Alerting H.alerted (judged_rows streams.now (rows_at (Clock until) port.old.port arrivals.old).0) result watch.old watch.new }
     ensures after { IsAfter (Clock until) result port.old.port arrivals.old port.new.port arrivals.new }
 {
     if port.now() <= until && until <= MAX_MOMENT {
@@ -133,7 +134,8 @@ fn take_clock<A: Allocator, B: Allocator, W: Write, H: Watch>(
     }
 }
 
-/// Takes an event, and writes the rows of the frames whose fate it decides. At a fault a prefix of them is written.
+/// Takes an event, and writes the rows of the frames whose fate it decides. Who watches is called where a frame is dropped
+/// or a command refused, and for each row whose stream has a deadline. At a fault a prefix of the rows is written.
 pub(crate) fn take_event<A: Allocator + Clone, B: Allocator, W: Write, H: Watch>(
     port: &mut RunningPort<A>,
     arrivals: &mut Arrivals<A>,
@@ -143,6 +145,7 @@ pub(crate) fn take_event<A: Allocator + Clone, B: Allocator, W: Write, H: Watch>
     watch: &mut H,
 ) -> Result<(), RunFault>
     ensures text { Runs result (W.contents writer.old) (W.contents writer.new) (rows_told streams.now event.now port.old.port arrivals.old) }
+    ensures alerts { Alerting H.alerted (request_alerts streams.now (Asks event.now) port.old.port arrivals.old) result watch.old watch.new }
     ensures after { IsAfter event.now result port.old.port arrivals.old port.new.port arrivals.new }
 {
     // For the prover: a call on a port says what holds of every port.
@@ -154,15 +157,19 @@ pub(crate) fn take_event<A: Allocator + Clone, B: Allocator, W: Write, H: Watch>
             Ok(())
         }
         Event::Install(command) => {
-            let _ = port.install(command);
+            let answer = port.install(command);
+            tell_refusal(watch, 0, b"", answer);
             Ok(())
         }
-        Event::Query | Event::Count(_) => Ok(()),
+        Event::Query => Ok(()),
+        Event::Count(_) => Ok(()),
     }
 }
 
 /// Calls who watches where the command of the line of this number is refused.
-fn tell_refusal<H: Watch>(watch: &mut H, number: u32, line: &[u8], answer: Result<u128, Refused>) {
+fn tell_refusal<H: Watch>(watch: &mut H, number: u32, line: &[u8], answer: Result<u128, Refused>)
+    ensures { H.alerted (refused_alert answer) watch.old watch.new }
+{
     if let Err(why) = answer {
         watch.command_failed(number, line, Failure::Refused(why));
     }
@@ -179,6 +186,8 @@ pub(crate) fn take_tc<A: Allocator, H: Watch>(
     ensures port { (read : List (List ℕ) → Result Command TcFault) → IsReader read →
         port.new.port ≡ settled (responses_to (tc_request (read (words_of line.now))) port.old.port).1 }
     ensures sound { IsSoundPort port.new.port }
+    ensures alerts { (read : List (List ℕ) → Result Command TcFault) → IsReader read →
+        H.alerted (alerts_of (told_to (tc_request (read (words_of line.now))) port.old.port)) watch.old watch.new }
 {
     // For the prover: a call on a port says what holds of every port.
     let _now = port.now();
@@ -200,7 +209,8 @@ fn put_left_in<A: Allocator, B: Allocator, W: Write, H: Watch>(
     watch: &mut H,
 ) -> Result<(), WriteFault>
     requires { class < CLASSES }
-    ensures { Writes result (W.contents writer.old) (W.contents writer.new) (rows_text streams.now (map (left_row class) (waiting_in arrivals.now class))) }
+    ensures text { Writes result (W.contents writer.old) (W.contents writer.new) (rows_text streams.now (map (left_row class) (waiting_in arrivals.now class))) }
+    ensures alerts { Alerting H.alerted (judged_rows streams.now (map (left_row class) (waiting_in arrivals.now class))) result watch.old watch.new }
 {
     for place in 0..arrivals.len(class) {
         let arrival = arrivals.get(class, place);
@@ -225,7 +235,8 @@ pub(crate) fn put_all_left<A: Allocator, B: Allocator, W: Write, H: Watch>(
     writer: &mut W,
     watch: &mut H,
 ) -> Result<(), WriteFault>
-    ensures { Writes result (W.contents writer.old) (W.contents writer.new) (rows_text streams.now (left_rows arrivals.now)) }
+    ensures text { Writes result (W.contents writer.old) (W.contents writer.new) (rows_text streams.now (left_rows arrivals.now)) }
+    ensures alerts { Alerting H.alerted (judged_rows streams.now (left_rows arrivals.now)) result watch.old watch.new }
 {
     for class in 0..CLASSES as u8 {
         put_left_in(arrivals, class, streams, writer, watch)?;
@@ -242,7 +253,8 @@ pub(crate) fn put_end<A: Allocator, B: Allocator, W: Write, H: Watch>(
     writer: &mut W,
     watch: &mut H,
 ) -> Result<(), WriteFault>
-    ensures { Writes result (W.contents writer.old) (W.contents writer.new) (ending_text streams.now until port.old.port arrivals.old) }
+    ensures text { Writes result (W.contents writer.old) (W.contents writer.new) (ending_text streams.now until port.old.port arrivals.old) }
+    ensures alerts { Alerting H.alerted (ending_alerts streams.now until port.old.port arrivals.old) result watch.old watch.new }
 {
     match until {
         None => put_all_left(arrivals, streams, writer, watch),
@@ -263,8 +275,10 @@ fn run_lines<A: Allocator + Clone, B: Allocator, C: Allocator, R: Read + Drop, W
     writer: &mut W,
     watch: &mut H,
 ) -> Result<(), RunFault>
-    ensures { (read : List (List ℕ) → Result Command TcFault) → IsReader read → IfSome (script_left R.remaining lines.old) (λ script.
+    ensures table { (read : List (List ℕ) → Result Command TcFault) → IsReader read → IfSome (script_left R.remaining lines.old) (λ script.
         RunsOut result (W.contents writer.old) (W.contents writer.new) (table_from streams.now read until script port.old.port arrivals.old)) }
+    ensures alerts { (read : List (List ℕ) → Result Command TcFault) → IsReader read → IfSome (script_left R.remaining lines.old) (λ script.
+        WatchedRun H.alerted (alerts_from streams.now read until script port.old.port arrivals.old) result watch.old watch.new) }
 {
     settling();
     // For the prover: a call on a port says what holds of every port.
@@ -298,8 +312,8 @@ fn put_lines<A: Allocator + Clone, B: Allocator, C: Allocator, R: Read + Drop, W
 ) -> Result<(), RunFault>
     ensures table { (read : List (List ℕ) → Result Command TcFault) → IsReader read → IfSome (script_left R.remaining lines.old) (λ script.
         RunsOut result (W.contents writer.old) (W.contents writer.new) (table_from rows.old.streams.now read until script port.old.port rows.old.arrivals)) }
-    ensures alerts { has_column rows.old.streams.now ≡ false → (read : List (List ℕ) → Result Command TcFault) → IsReader read → IfSome (script_left R.remaining lines.old) (λ script.
-        Watched H.alerted (alerts_of (told_of (reading_of read script).requests port.old.port)) result watch.old watch.new) }
+    ensures alerts { (read : List (List ℕ) → Result Command TcFault) → IsReader read → IfSome (script_left R.remaining lines.old) (λ script.
+        WatchedRun H.alerted (alerts_from rows.old.streams.now read until script port.old.port rows.old.arrivals) result watch.old watch.new) }
 {
     if has_column(rows.streams) {
         let streams = rows.streams;
@@ -327,8 +341,8 @@ fn put_table<A: Allocator + Clone, B: Allocator, C: Allocator, R: Read + Drop, W
 ) -> Result<(), RunFault>
     ensures table { (read : List (List ℕ) → Result Command TcFault) → IsReader read → IfSome (script_left R.remaining lines.old) (λ script.
         RunsOut result (W.contents writer.old) (W.contents writer.new) (with_head rows.old.streams.now (table_from rows.old.streams.now read until script port.old.port rows.old.arrivals))) }
-    ensures alerts { has_column rows.old.streams.now ≡ false → (read : List (List ℕ) → Result Command TcFault) → IsReader read → IfSome (script_left R.remaining lines.old) (λ script.
-        Watched H.alerted (alerts_of (told_of (reading_of read script).requests port.old.port)) result watch.old watch.new) }
+    ensures alerts { (read : List (List ℕ) → Result Command TcFault) → IsReader read → IfSome (script_left R.remaining lines.old) (λ script.
+        WatchedRun H.alerted (alerts_from rows.old.streams.now read until script port.old.port rows.old.arrivals) result watch.old watch.new) }
 {
     put_head(rows.streams, writer)?;
     put_lines(port, rows, lines, until, writer, watch)
@@ -345,7 +359,7 @@ pub(crate) fn run_with<A: Allocator, B: Allocator, R: Read + Drop, W: Write, H: 
 ) -> Result<(), RunFault>
     ensures table { (read : List (List ℕ) → Result Command TcFault) → IsReader read → IfSome (R.remaining reader) (λ input.
         RunsOut result (W.contents writer.old) (W.contents writer.new) (frames_by streams.now read settings input)) }
-    ensures watched { has_column streams.now ≡ false → IsWatchedFrames H.alerted settings (R.remaining reader) result watch.old watch.new }
+    ensures watched { IsWatchedFrames H.alerted streams.now settings (R.remaining reader) result watch.old watch.new }
 {
     let rate = settings.rate();
     // For the prover: the getter says within which limits a rate lies.
@@ -386,7 +400,7 @@ pub fn run_frames<A: Allocator, R: Read + Drop, W: Write, H: Watch>(
 ) -> Result<(), RunFault>
     ensures table { (read : List (List ℕ) → Result Command TcFault) → IsReader read → IfSome (R.remaining reader) (λ input.
         RunsOut result (W.contents writer.old) (W.contents writer.new) (frames_of read settings input)) }
-    ensures watched { IsWatchedFrames H.alerted settings (R.remaining reader) result watch.old watch.new }
+    ensures watched { IsWatchedFrames H.alerted None settings (R.remaining reader) result watch.old watch.new }
 {
     let none: Option<Streams<A>> = None;
     run_with(alloc, &none, reader, writer, settings, watch)

@@ -1,10 +1,18 @@
 -- What counts for a strict run, and the exit status that it ends with.
-use Rattle.std.specs.Prelude.{◌≡◌, ◌==◌, ◌&&◌, ◌||◌, ◌⊎◌, ℕ, Bool, true, false, List, [], ◌∷◌, Option, Some, None, Result, IfOk, IfSome, if◌then◌else◌}
+use Rattle.std.specs.Prelude.{◌≡◌, ◌==◌, ◌&&◌, ◌||◌, ◌⊎◌, ℕ, Bool, true, false, List, [], ◌∷◌, Option, Some, None, Result, codes, IfOk, IfSome, if◌then◌else◌}
 use Rattle.abstract_port.specs.AbstractPort.{new_port}
 use Rattle.abstract_port.specs.declared.Command.{Command}
+use Rattle.capture.specs.Records.{Entry}
+use Rattle.capture.specs.declared.fault.CapFault.{CapFault}
+use Rattle.capture.specs.declared.reader.End.{End}
+use Rattle.capture.specs.declared.writer.TheConstants.{CAPTURE_END}
+use Rattle.clap.specs.Matches.{first_value}
 use Rattle.clap.specs.declared.parser.matches.Found.{Found}
+use Rattle.frame_table.specs.Alerts as Frames
+use Rattle.frame_table.specs.Alerts.{by_stream_alerts, capture_alerts, frames_alerts}
 use Rattle.job.specs.declared.report.Ended.{Ended}
 use Rattle.line_reader.specs.Script.{script_of}
+use Rattle.replay.specs.Outcome.{ReadsAs}
 use Rattle.schedule_check.specs.Alerts as Checks
 use Rattle.schedule_check.specs.Alerts.{alerts_in}
 use Rattle.schedule_check.specs.declared.settings.CheckSettings.{CheckSettings}
@@ -12,6 +20,7 @@ use Rattle.script.specs.Alerts as Scripts
 use Rattle.script.specs.Alerts.{Alert, Failed, Judged, Left, Lost, Passed, Stream, run_alerts}
 use Rattle.script.specs.Outcome.{reading_of}
 use Rattle.script.specs.Setup.{Setup}
+use Rattle.script.specs.declared.settings.BadValue.{BadValue}
 use Rattle.tc_reader.specs.Reader.{IsReader}
 use Rattle.tc_reader.specs.declared.fault.TcFault.{TcFault}
 use Rattle.wire_time.specs.Moment.{greatest_moment}
@@ -46,9 +55,22 @@ abbrev pub are_plain : List Alert → Bool
 are_plain [] = true
 are_plain (alert ∷ rest) = is_plain alert && are_plain rest
 
--- Who watches was told these alerts: of plain ones something is found where something was found before, or one of them counts. What is looked at stays.
-abbrev pub IsSeen : List Alert → (frames before looks found : Bool) → Type 0
-IsSeen alerts frames before looks found = (looks ≡ frames) × (are_plain alerts ≡ true → found ≡ (before || any_counts frames alerts))
+-- what who watches knows: whether frames are looked at, whether something was found, and whether a stream that has a deadline was read
+pub record Sight : Type 0 where
+  pub frames : Bool
+  pub found : Bool
+  pub timed : Bool
+
+abbrev pub sight : Bool → Bool → Bool → Sight
+sight frames found timed = record { frames = frames; found = found; timed = timed }
+
+-- Who watches was told these alerts: something is found where something was found before, or one of them counts; of plain ones only then, and no stream
+-- was read. What is looked at stays.
+pub record IsSeen (alerts : List Alert) (before after : Sight) : Type 0 where
+  pub looks : after.frames ≡ before.frames
+  pub kept : (before.found || any_counts before.frames alerts) ≡ true → after.found ≡ true
+  pub exact : are_plain alerts ≡ true → after.found ≡ (before.found || any_counts before.frames alerts)
+  pub timed : are_plain alerts ≡ true → after.timed ≡ before.timed
 
 -- 2. The status
 
@@ -71,21 +93,62 @@ abbrev pub IsStrictCheck : Found → Option (List ℕ) → Ended → Ended → C
 IsStrictCheck found input run ended s = (read : List (List ℕ) → Result Command TcFault) → IsReader read → IfSome input (λ octets.
     IsStrictEnd (is_strict found) (looks_at_frames found) true (alerts_in s read (script_of octets)) run ended)
 
--- The exit status of a script or a check whose values are good, by the alerts of its input, and by the status with which the job itself ended.
+-- and of those of the table of a script's frames
+abbrev pub IsStrictFrames : Found → Option (List ℕ) → Ended → Ended → Setup → Type 0
+IsStrictFrames found input run ended s = (read : List (List ℕ) → Result Command TcFault) → IsReader read → IfSome input (λ octets.
+    IsStrictEnd (is_strict found) (looks_at_frames found) false (frames_alerts None read s octets) run ended)
+
+-- with a table of streams it may be that streams share ids, or that no frame is judged by a deadline
+abbrev pub IsStrictByStream : Found → (table input : Option (List ℕ)) → Ended → Ended → Setup → Type 0
+IsStrictByStream found table input run ended s = (read : List (List ℕ) → Result Command TcFault) → IsReader read → IfSome table (λ streams. IfSome input (λ octets.
+    IsStrictEnd (is_strict found) (looks_at_frames found) true (by_stream_alerts read s streams octets) run ended))
+
+-- with a capture
+abbrev pub IsStrictCapture : Found → (capture input : Option (List ℕ)) → Ended → Ended → Setup → Type 0
+IsStrictCapture found capture input run ended s = (read : List (List ℕ) → Result Command TcFault) → IsReader read → IfSome input (λ lines. IfSome capture (λ octets.
+    (records : Result (List Entry × End) CapFault) → ReadsAs octets records → IsStrictEnd (is_strict found) (looks_at_frames found) false (capture_alerts read s lines records) run ended))
+
+-- A file that the words name gives some octets, since what it gives is not known; or it can't be opened.
+abbrev pub IsOfFile : (Option (List ℕ) → Setup → Type 0) → Ended → Setup → Type 0
+IsOfFile holds run s = ((octets : Option (List ℕ)) × holds octets s) ⊎ (run.status ≡ 4)
+
+-- by the files that the words name
+abbrev pub IsStrictByFiles : Found → (capture streams : Option (List ℕ)) → Option (List ℕ) → Ended → Ended → Type 0
+IsStrictByFiles found None None input run ended = IfOk (settings_in greatest_moment found) (IsStrictFrames found input run ended)
+IsStrictByFiles found None (Some path) input run ended = IfOk (settings_in greatest_moment found) (IsOfFile (λ table. IsStrictByStream found table input run ended) run)
+IsStrictByFiles found (Some path) streams input run ended = IfOk (settings_in CAPTURE_END found) (IsOfFile (λ capture. IsStrictCapture found capture input run ended) run)
+
+-- The exit status of a script, a check or a table of frames whose values are good, by the alerts of its input, and by the status with which the job itself
+-- ended.
 abbrev pub IsStrictEnding : JobName → Found → Option (List ℕ) → Ended → Ended → Type 0
 IsStrictEnding Names.Script found input run ended = IfOk (settings_in greatest_moment found) (IsStrictScript found input run ended)
 IsStrictEnding Names.Check found input run ended = IfOk (checks_in found) (IsStrictCheck found input run ended)
+IsStrictEnding Names.Frames found input run ended = IsStrictByFiles found (first_value found (codes "capture")) (first_value found (codes "by-stream")) input run ended
 IsStrictEnding job found input run ended = Unit {0}
 
 -- 3. Calls
 
 -- whether a job may find that there was nothing for it to look at
-abbrev pub may_find_nothing : JobName → Bool → Bool
-may_find_nothing Names.Script frames = frames
-may_find_nothing job frames = true
+abbrev pub may_find_nothing : JobName → (frames timed : Bool) → Bool
+may_find_nothing Names.Script frames timed = frames
+may_find_nothing Names.Frames frames timed = timed
+may_find_nothing job frames timed = true
 
--- who watches a script or a check was told its alerts
+-- who watches the table of frames was told its alerts, by the files that the words name; of a file that can't be opened nothing
+abbrev pub IsWatchedBeside : {H : Type 0} → (List Alert → H → H → Type 0) → Result Setup BadValue → Option (List ℕ) → Ended → H → H → Type 0
+IsWatchedBeside alerted settings input ended h k = IfOk settings (IsOfFile (λ capture s. Frames.IsWatchedCaptureEnding alerted s input capture ended h k) ended)
+
+abbrev pub IsWatchedTable : {H : Type 0} → (List Alert → H → H → Type 0) → Result Setup BadValue → Option (List ℕ) → Option (List ℕ) → Ended → H → H → Type 0
+IsWatchedTable alerted settings None input ended h k = Frames.IsWatchedEnding alerted settings input ended h k
+IsWatchedTable alerted settings (Some path) input ended h k = IfOk settings (IsOfFile (λ table s. Frames.IsWatchedByStreamEnding alerted s table input ended h k) ended)
+
+abbrev pub IsWatchedByFiles : {H : Type 0} → (List Alert → H → H → Type 0) → Found → (capture streams : Option (List ℕ)) → Option (List ℕ) → Ended → H → H → Type 0
+IsWatchedByFiles alerted found None streams input ended h k = IsWatchedTable alerted (settings_in greatest_moment found) streams input ended h k
+IsWatchedByFiles alerted found (Some path) streams input ended h k = IsWatchedBeside alerted (settings_in CAPTURE_END found) input ended h k
+
+-- who watches a script, a check or a table of frames was told its alerts
 abbrev pub IsWatchedJob : {H : Type 0} → (List Alert → H → H → Type 0) → JobName → Found → Option (List ℕ) → Ended → H → H → Type 0
 IsWatchedJob alerted Names.Script found input ended h k = Scripts.IsWatchedEnding alerted (settings_in greatest_moment found) input ended h k
 IsWatchedJob alerted Names.Check found input ended h k = Checks.IsWatchedEnding alerted (checks_in found) input ended h k
+IsWatchedJob alerted Names.Frames found input ended h k = IsWatchedByFiles alerted found (first_value found (codes "capture")) (first_value found (codes "by-stream")) input ended h k
 IsWatchedJob alerted job found input ended h k = Unit {0}

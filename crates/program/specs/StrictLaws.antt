@@ -2,7 +2,7 @@
 use Rattle.std.proofs.Common.{◌≡◌, ◌||◌, Bool, true, false, List, [], ◌∷◌, ◌++◌, refl, sym, ap, ◌∙◌, subst}
 use Rattle.std.specs.Prelude.{◌&&◌}
 use Rattle.script.specs.Alerts.{Alert}
-use Rattle.program.specs.Strict.{IsSeen, any_counts, are_plain, counts, is_plain}
+use Rattle.program.specs.Strict.{IsSeen, Sight, any_counts, are_plain, counts, is_plain}
 
 or_none : (b : Bool) → b ≡ (b || false)
 or_none true = refl
@@ -41,14 +41,30 @@ plain-both [] ys e f = f
 plain-both (x ∷ xs) ys e f =
     both_of_two (is_plain x) (are_plain (xs ++ ys)) (first_of_two (is_plain x) (are_plain xs) e) (plain-both xs ys (second_of_two (is_plain x) (are_plain xs) e) f)
 
-pub none_seen : (frames found : Bool) → IsSeen [] frames found frames found
-none_seen frames found = (refl, λ plain. or_none found)
+some_of : (a b : Bool) → a ≡ true → (a || b) ≡ true
+some_of a b e = ap (λ x. x || b) e
 
-pub both_seen : (xs ys : List Alert) (f g h a b c : Bool) → IsSeen xs f a g b → IsSeen ys g b h c → IsSeen (xs ++ ys) f a h c
-both_seen xs ys f g h a b c (same, first) (also, second) = (
-  also ∙ same,
-  λ plain.
-      let here = first (plain-first xs ys plain) in
-      let then = second (plain-second xs ys plain) in
-      then ∙ ap (λ x. x || any_counts g ys) here ∙ ap (λ x. (a || any_counts f xs) || any_counts x ys) same ∙ or_assoc a (any_counts f xs) (any_counts f ys) ∙ ap (λ x. a || x) (sym (counts-both f xs ys)),
-)
+other_of : (a b : Bool) → b ≡ true → (a || b) ≡ true
+other_of true b e = refl
+other_of false b e = e
+
+pub none_seen : (s : Sight) → IsSeen [] s s
+none_seen s = record { looks = refl; kept = λ some. or_none s.found ∙ some; exact = λ plain. or_none s.found; timed = λ plain. refl }
+
+pub both_seen : (xs ys : List Alert) (s t u : Sight) → IsSeen xs s t → IsSeen ys t u → IsSeen (xs ++ ys) s u
+both_seen xs ys s t u a b = record {
+  looks = b.looks ∙ a.looks;
+  kept = λ some. by (s.found || any_counts s.frames xs) refl (sym parts ∙ some);
+  exact = λ plain.
+      let here = a.exact (plain-first xs ys plain) in
+      let then = b.exact (plain-second xs ys plain) in
+      then ∙ ap (λ x. x || any_counts t.frames ys) here ∙ ap (λ x. (s.found || any_counts s.frames xs) || any_counts x ys) a.looks ∙ sym parts;
+  timed = λ plain. b.timed (plain-second xs ys plain) ∙ a.timed (plain-first xs ys plain);
+}
+  where
+    parts : (s.found || any_counts s.frames (xs ++ ys)) ≡ ((s.found || any_counts s.frames xs) || any_counts s.frames ys)
+    parts = ap (λ x. s.found || x) (counts-both s.frames xs ys) ∙ sym (or_assoc s.found (any_counts s.frames xs) (any_counts s.frames ys))
+
+    by : (c : Bool) → (s.found || any_counts s.frames xs) ≡ c → ((s.found || any_counts s.frames xs) || any_counts s.frames ys) ≡ true → u.found ≡ true
+    by true e some = b.kept (some_of t.found (any_counts t.frames ys) (a.kept e))
+    by false e some = b.kept (other_of t.found (any_counts t.frames ys) (ap (λ x. any_counts x ys) a.looks ∙ (sym (ap (λ x. x || any_counts s.frames ys) e) ∙ some)))

@@ -6,6 +6,7 @@ ghost use Rattle.octet_writer.specs.Buffered.{writer_contents};
 ghost use Rattle.clap.specs.Matches.{first_value, found_of};
 ghost use Rattle.capture.specs.declared.writer.TheConstants.{CAPTURE_END};
 ghost use Rattle.program.specs.Given.{IsGivenCapture, IsGivenFrames, IsGivenTable, frames_settings, settings_in};
+ghost use Rattle.program.specs.Strict.{IsWatchedBeside, IsWatchedByFiles, IsWatchedTable};
 ghost use Rattle.wire_time.specs.Moment.{greatest_moment};
 
 use crate::options::values_of;
@@ -36,6 +37,7 @@ fn frames_of_capture<F: Files, B: Allocator, R: Read, W: Write + Drop, E: Errors
 ) -> (Ended, W)
     ensures ending { IsGivenCapture (settings_in CAPTURE_END (found_of matches.now)) path.now
         (R.remaining reader.old) result.0 (writer_contents W.contents answers) (W.contents result.1) (E.contents errors.old) (E.contents errors.new) }
+    ensures watched { IsWatchedBeside H.alerted (settings_in CAPTURE_END (found_of matches.now)) (R.remaining reader.old) result.0 watch.old watch.new }
     ensures unread { IfErr (settings_in CAPTURE_END (found_of matches.now)) (λ _. reader.new ≡ reader.old) }
 {
     let settings = match settings_given(values_of(matches), CAPTURE_END) {
@@ -64,6 +66,7 @@ fn frames_of_script<F: Files, B: Allocator, R: Read, W: Write + Drop, E: Errors,
 ) -> (Ended, W)
     ensures ending { IsGivenTable (settings_in greatest_moment (found_of matches.now)) (first_value (found_of matches.now) (codes "by-stream"))
         (R.remaining reader.old) result.0 (writer_contents W.contents answers) (W.contents result.1) (E.contents errors.old) (E.contents errors.new) }
+    ensures watched { IsWatchedTable H.alerted (settings_in greatest_moment (found_of matches.now)) (first_value (found_of matches.now) (codes "by-stream")) (R.remaining reader.old) result.0 watch.old watch.new }
     ensures unread { IfErr (settings_in greatest_moment (found_of matches.now)) (λ _. reader.new ≡ reader.old) }
 {
     let values = values_of(matches);
@@ -96,6 +99,8 @@ pub fn frames_given<F: Files, B: Allocator, R: Read, W: Write + Drop, E: Errors,
 ) -> (Ended, W)
     ensures ending { IsGivenFrames (found_of matches.now) (first_value (found_of matches.now) (codes "capture")) (first_value (found_of matches.now) (codes "by-stream"))
         (R.remaining reader.old) result.0 (writer_contents W.contents answers) (W.contents result.1) (E.contents errors.old) (E.contents errors.new) }
+    ensures watched { IsWatchedByFiles H.alerted (found_of matches.now) (first_value (found_of matches.now) (codes "capture")) (first_value (found_of matches.now) (codes "by-stream"))
+        (R.remaining reader.old) result.0 watch.old watch.new }
     ensures unread { IfErr (frames_settings (first_value (found_of matches.now) (codes "capture")) (found_of matches.now)) (λ _. reader.new ≡ reader.old) }
 {
     match matches.get_str("capture") {

@@ -148,6 +148,7 @@ impl<'a, 'b, C: Clock, P: Write + Drop, E: Write> Onlooker<'a, 'b, C, P, E> {
         looks: Looks,
     ) -> Onlooker<'a, 'b, C, P, E>
         ensures found { result.found ≡ false }
+        ensures timed { result.has_deadlines ≡ false }
         ensures looks { result.looks ≡ looks }
     {
         Onlooker {
@@ -179,6 +180,7 @@ impl<'a, 'b, C: Clock, P: Write + Drop, E: Write> Onlooker<'a, 'b, C, P, E> {
     fn is_first_of_frames(&mut self) -> bool
         ensures looks { self.new.looks ≡ self.old.looks }
         ensures found { self.new.found ≡ (self.old.found || self.old.looks.frames) }
+        ensures timed { self.new.has_deadlines ≡ self.old.has_deadlines }
     {
         if !self.looks.frames {
             return false;
@@ -193,7 +195,7 @@ impl<'a, 'b, C: Clock, P: Write + Drop, E: Write> Onlooker<'a, 'b, C, P, E> {
     /// frame, or no frame with a deadline. A check without a command has written nothing.
     pub fn warn_of_nothing(&mut self, name: JobName, ended: Ended, is_written: bool)
         ensures kept { self.old.found ≡ true → self.new.found ≡ true }
-        ensures same { may_find_nothing name self.old.looks.frames ≡ false → self.new.found ≡ self.old.found }
+        ensures same { may_find_nothing name self.old.looks.frames self.old.has_deadlines ≡ false → self.new.found ≡ self.old.found }
     {
         if ended.status != 0 {
             return;
@@ -237,7 +239,8 @@ impl<'a, 'b, C: Clock, P: Write + Drop, E: Write> Onlooker<'a, 'b, C, P, E> {
 
     /// Warns where streams that were read have deadlines, and no frame was judged by one, where that is wanted.
     fn warn_of_none_judged(&mut self)
-        ensures { self.old.found ≡ true → self.new.found ≡ true }
+        ensures kept { self.old.found ≡ true → self.new.found ≡ true }
+        ensures same { self.old.has_deadlines ≡ false → self.new.found ≡ self.old.found }
     {
         if !self.looks.warns() || !self.has_deadlines || self.judged {
             return;
@@ -250,7 +253,8 @@ impl<'a, 'b, C: Clock, P: Write + Drop, E: Write> Onlooker<'a, 'b, C, P, E> {
     /// Looks at a line that the job didn't: whether it is a malformed command, or a comment where a command was perhaps
     /// meant.
     fn look_at(&mut self, number: u32, line: &[u8])
-        ensures { self.new.looks.frames ≡ self.old.looks.frames }
+        ensures looks { self.new.looks.frames ≡ self.old.looks.frames }
+        ensures kept { self.old.found ≡ true → self.new.found ≡ true }
     {
         if Words::new(line).next_word() != Some(b"tc".as_slice()) {
             self.look_at_comment(number, line);
@@ -263,6 +267,7 @@ impl<'a, 'b, C: Clock, P: Write + Drop, E: Write> Onlooker<'a, 'b, C, P, E> {
     fn look_at_comment(&mut self, number: u32, line: &[u8])
         ensures looks { self.new.looks ≡ self.old.looks }
         ensures found { self.new.found ≡ self.old.found }
+        ensures timed { self.new.has_deadlines ≡ self.old.has_deadlines }
     {
         let mut words = Words::new(line);
         let is_meant = words.next_word() == Some(b"#".as_slice())
@@ -290,10 +295,10 @@ impl<'a, 'b, C: Clock, P: Write + Drop, E: Write> Onlooker<'a, 'b, C, P, E> {
 }
 
 impl<C: Clock, P: Write + Drop, E: Write> Watch for Onlooker<'_, '_, C, P, E> {
-    ghost use Rattle.program.specs.Strict.{IsSeen};
+    ghost use Rattle.program.specs.Strict.{IsSeen, sight};
     ghost use Rattle.program.specs.StrictLaws.{none_seen, both_seen};
 
-    ghost alerted = { λ alerts s t. IsSeen alerts s.looks.frames s.found t.looks.frames t.found };
+    ghost alerted = { λ alerts s t. IsSeen alerts (sight s.looks.frames s.found s.has_deadlines) (sight t.looks.frames t.found t.has_deadlines) };
 
     #[inline(always)]
     fn records_taken(&mut self, records: u32, moment: u128) {
@@ -387,7 +392,7 @@ impl<C: Clock, P: Write + Drop, E: Write> Watch for Onlooker<'_, '_, C, P, E> {
         }
     }
 
-    ghost nothing = { λ s. none_seen s.looks.frames s.found };
+    ghost nothing = { λ s. none_seen (sight s.looks.frames s.found s.has_deadlines) };
 
-    ghost both = { λ xs ys s t u a b. both_seen xs ys s.looks.frames t.looks.frames u.looks.frames s.found t.found u.found a b };
+    ghost both = { λ xs ys s t u a b. both_seen xs ys (sight s.looks.frames s.found s.has_deadlines) (sight t.looks.frames t.found t.has_deadlines) (sight u.looks.frames u.found u.has_deadlines) a b };
 }

@@ -76,6 +76,7 @@ fn keep_lines<A: Allocator, B: Allocator, R: Read + Drop, P: Watch>(
     ensures rest { (read : List (List ℕ) → Result Command TcFault) → IsReader read → IfSome (script_left R.remaining lines.old) (λ rest.
         ReadsRest result (kept_requests read script.old.octets.items script.old.lines.items) (reading_of read rest) (kept_requests read script.new.octets.items script.new.lines.items)) }
     ensures read { result ≡ Err Faults.Read → how_ended lines.new ≡ Some (Err LineFaults.Read) }
+    ensures alerts { P.alerted [] watch.old watch.new }
 {
     'lines: while lines.advance()? {
         let octets = lines.line();
@@ -94,14 +95,16 @@ fn keep_lines<A: Allocator, B: Allocator, R: Read + Drop, P: Watch>(
     Ok(())
 }
 
-/// Reads a script to its end, or to its first fault.
+/// Reads a script to its end, or to its first fault. Who watches is called for a malformed line, and for each that is
+/// skipped.
 pub fn read_script<A: Allocator + Clone, R: Read + Drop, P: Watch>(
     alloc: &A,
     reader: R,
     watch: &mut P,
 ) -> Result<KeptScript<A>, ReplayFault>
-    ensures { (read : List (List ℕ) → Result Command TcFault) → IsReader read → IfSome (R.remaining reader) (λ input.
+    ensures script { (read : List (List ℕ) → Result Command TcFault) → IsReader read → IfSome (R.remaining reader) (λ input.
         GivesScript read result (reading_of read (script_of input))) }
+    ensures alerts { P.alerted [] watch.old watch.new }
 {
     let mut lines = LineReader::new(alloc.clone()?, reader)?;
     let mut script = KeptScript {

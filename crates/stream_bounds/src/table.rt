@@ -52,6 +52,8 @@ impl<A: Allocator> StreamTaker for PeriodicStreams<A> {
 
     ghost taken = { λ streams. streams };
 
+    ghost tells = { λ number stream. [] };
+
     fn take<H: Watch>(
         &mut self,
         _number: u32,

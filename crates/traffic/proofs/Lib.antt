@@ -1,3 +1,4 @@
+mod AlertLaws
 mod BeforeLaws
 mod FirstLaws
 mod FitLaws

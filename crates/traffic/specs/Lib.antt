@@ -3,6 +3,7 @@ pub mod Parts
 pub mod Draws
 pub mod Table
 pub mod TableRead
+pub mod Alerts
 pub mod Frames
 pub mod Plan
 pub mod Head

@@ -20,6 +20,7 @@ unfoldable pub use Rattle.traffic.specs.Merge.{frames_before, frames_from}
 pub use Rattle.traffic.specs.Outcome.{crowded, merging, outcome_among, outcome_by_lines, outcome_in, outcome_of}
 pub use Rattle.traffic.specs.Room.{AreCounted, IsCount, IsRoomFor, IsRoomLeft, clock_count, counted_line, counted_with, crowded_line, frame_count, limit_passed, line_feeds, lines_known, lines_taken, room_beside, unless_passed}
 unfoldable pub use Rattle.traffic.specs.Room.{counted_in, line_count, passed_on}
+pub use Rattle.traffic.specs.Alerts.{alerts_judged, alerts_said, stream_alert, table_alerts}
 pub use Rattle.traffic.specs.TableRead.{IsTaken, IsUntaken, ReadsTable, TakesLine}
 pub use Rattle.traffic.specs.Table.{HasTimes, IsSaid, Table, earliest, has_ids, line_judged, line_said, offset_in, shortest_of, stream_in_words, stream_said}
 pub use Rattle.traffic.specs.Plan.{IsKept, IsStream, course_of, courses_from, greatest_offset, judged, offset_drawn, plan_frames, table_of}

@@ -1,7 +1,7 @@
 //! The streams of a table whose frames become a script.
 
 ghost use Rattle.std.specs.Prelude.{◌≡◌, ◌≤◌, ◌++◌, ◌∷◌, [], All, IfErr, IfOk, OnOk};
-ghost use Rattle.traffic.specs.Words.{IsKept, courses_from, frames_of, greatest_moment, judged, left_of};
+ghost use Rattle.traffic.specs.Words.{IsKept, courses_from, frames_of, greatest_moment, judged, left_of, stream_alert};
 ghost use Rattle.std.specs.List.{flat_map};
 
 use crate::plan::{Plan, course_of, judged};
@@ -60,6 +60,8 @@ impl<A: Allocator> StreamTaker for KeptStreams<A> {
     ghost judge = { λ k. judged k.plan };
 
     ghost taken = { λ k. k.streams };
+
+    ghost tells = { stream_alert };
 
     fn take<H: Watch>(
         &mut self,

@@ -1,7 +1,7 @@
 //! What the lines of a table of streams say.
 
 ghost use Rattle.std.specs.Prelude.{◌≡◌, ◌≤◌, IfSome, IfOk};
-ghost use Rattle.traffic.specs.Words.{earliest, greatest_moment, has_ids, line_said, offset_in, shortest_of, stream_in_words, stream_said, words_left, words_of, IsSaid};
+ghost use Rattle.traffic.specs.Words.{earliest, greatest_moment, has_ids, line_said, offset_in, shortest_of, stream_alert, stream_in_words, stream_said, words_left, words_of, IsSaid};
 
 use crate::parts::{Ends, ends_in};
 use script::{ScriptFault, Watch};
@@ -184,7 +184,9 @@ pub fn read_stream_line(line: &[u8]) -> Result<Option<Stream>, ScriptFault>
 }
 
 /// Calls who watches for a stream, which the line of this number is.
-pub fn tell_stream<H: Watch>(number: u32, stream: &Stream, watch: &mut H) {
+pub fn tell_stream<H: Watch>(number: u32, stream: &Stream, watch: &mut H)
+    ensures { H.alerted (stream_alert number stream.now) watch.old watch.new }
+{
     let has_deadline = stream.deadline.is_some();
     watch.stream_read(number, stream.first_id, stream.count, has_deadline);
 }

@@ -11,7 +11,7 @@ invariant-records g l = record {
   going : (left l.records).ended ≡ None;
   numbered : (left l.records).number ≡ l.number;
   at : (read : List (List ℕ) → Result Command TcFault) → IsReader read → (entries : List Entry) (last : End) → Comes g.R.Read.remaining (left l.fn.records) entries last →
-      Taken (GoesTo l.streams entries (lines_left read l.script l.fn.cursor) (place l.fn.port.port l.fn.arrivals (g.W.Write.contents l.fn.writer)) (place l.port.port l.arrivals (g.W.Write.contents l.writer)))
+      Taken (GoesTo g.H.Watch.alerted l.streams entries (lines_left read l.script l.fn.cursor) (place l.fn.port.port l.fn.arrivals (g.W.Write.contents l.fn.writer) l.fn.watch) (place l.port.port l.arrivals (g.W.Write.contents l.writer) l.watch))
       g.R.Read.remaining entries last (left l.records) l.latest l.number (lines_left read l.script l.fn.cursor) (lines_left read l.script l.cursor);
 }
 

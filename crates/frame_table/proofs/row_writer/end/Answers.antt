@@ -10,4 +10,4 @@ returns-in_err-walk_on g c =
 pub returns : goal.returns
 returns g c =
     let done = c.in_ok-walk_on.ensures in
-    end_whole c.args.rows.now.streams.now c.args.until c.args.port.now.port c.args.rows.now.arrivals _ _ c.halted.result c.put_all_left.result _ _ _ c.halted.ensures done.told c.put_all_left.ensures
+    end_whole c.args.rows.now.streams.now c.args.until c.args.port.now.port c.args.rows.now.arrivals _ _ c.halted.result c.put_all_left.result _ _ _ c.halted.ensures done.told c.put_all_left.ensures.text

@@ -1,19 +1,32 @@
 use Rattle.std.proofs.lemmas.Result.{err_from_is_err_and}
 use Rattle.octet_writer.proofs.Fronts.{sent_all, sent_exit, sent_more, sent_none}
+use Rattle.script.proofs.AlertLaws.{alerted_all, alerted_more, alerted_none}
+use Rattle.frame_table.specs.Words.{judged_row, row_line}
+use Rattle.frame_table.proofs.AlertLaws.{alerting_in}
 use Rattle.frame_table.proofs.LeftLaws.{left-class, left-over}
 use Rattle.frame_table.proofs.table_run.put_all_left.Goals as goal
 
 pub loop-class-init : goal.loop-class-init
-loop-class-init g c = sent_none _ _
+loop-class-init g c = record { sent = sent_none _ _; told = alerted_none g.H.Watch.alerted g.met.H.Watch.nothing _ c.args.watch.now }
 
-pub returns-in_err-put_left_in : goal.returns-in_err-put_left_in
-returns-in_err-put_left_in g c =
+pub returns-in_err-put_left_in-clause-text : goal.returns-in_err-put_left_in-clause-text
+returns-in_err-put_left_in-clause-text g c =
     let p = err_from_is_err_and c.from_residual.result c.from_residual.ensures.1 in
-    sent_exit _ _ _ p.1 c.loop-class.invariant (left-class c.args.streams.now c.loop-class.class c.args.arrivals.now c.loop-class-test.true) c.in_err-put_left_in.ensures
+    sent_exit _ _ _ p.1 c.loop-class.invariant.sent (left-class (row_line c.args.streams.now) c.loop-class.class c.args.arrivals.now c.loop-class-test.true) c.in_err-put_left_in.ensures.text
+
+pub returns-in_err-put_left_in-clause-alerts : goal.returns-in_err-put_left_in-clause-alerts
+returns-in_err-put_left_in-clause-alerts g c =
+    let p = err_from_is_err_and c.from_residual.result c.from_residual.ensures.1 in
+    alerting_in g.H.Watch.alerted g.met.H.Watch.both _ _ _ _ _ _ _ _ _ p.1 c.loop-class.invariant.told (left-class (judged_row c.args.streams.now) c.loop-class.class c.args.arrivals.now c.loop-class-test.true) c.in_err-put_left_in.ensures.alerts
 
 pub loop-class-preserved : goal.loop-class-preserved
-loop-class-preserved g c =
-    sent_more _ _ _ c.loop-class.invariant (left-class c.args.streams.now c.loop-class.class c.args.arrivals.now c.loop-class-test.true) c.in_ok-put_left_in.ensures
+loop-class-preserved g c = record {
+  sent = sent_more _ _ _ c.loop-class.invariant.sent (left-class (row_line c.args.streams.now) c.loop-class.class c.args.arrivals.now c.loop-class-test.true) c.in_ok-put_left_in.ensures.text;
+  told = alerted_more g.H.Watch.alerted g.met.H.Watch.both _ _ _ _ _ _ _ c.loop-class.invariant.told (left-class (judged_row c.args.streams.now) c.loop-class.class c.args.arrivals.now c.loop-class-test.true) c.in_ok-put_left_in.ensures.alerts;
+}
 
-pub returns : goal.returns
-returns g c = sent_all c.loop-class.invariant (left-over c.args.streams.now c.loop-class.class c.args.arrivals.now c.loop-class-test.false)
+pub returns-clause-text : goal.returns-clause-text
+returns-clause-text g c = sent_all c.loop-class.invariant.sent (left-over (row_line c.args.streams.now) c.loop-class.class c.args.arrivals.now c.loop-class-test.false)
+
+pub returns-clause-alerts : goal.returns-clause-alerts
+returns-clause-alerts g c = alerted_all g.H.Watch.alerted _ _ _ _ c.loop-class.invariant.told (left-over (judged_row c.args.streams.now) c.loop-class.class c.args.arrivals.now c.loop-class-test.false)

@@ -1,5 +1,6 @@
 use Rattle.std.proofs.Common.{sym, ap, ◌∙◌}
 use Rattle.clap.specs.Matches.{found_of}
+use Rattle.program.specs.Strict.{sight}
 use Rattle.program.specs.declared.onlooker.Onlooker.{Onlooker}
 use Rattle.program.proofs.AlertLaws.{strict_by}
 use Rattle.program.proofs.calls.answer_watched.Goals as goal
@@ -14,8 +15,8 @@ returns g c =
       text = c.answer_job-writer.new.errors.text.items;
       ending = rw c.new-text.ensures at c.answer_job-writer.ensures.ending;
       judged = rw looks.strict at c.judged.ensures.judged;
-      strict = strict_by _ (λ (o : Onlooker _ _ _). o.looks.frames) (λ o. o.found) (λ xs s t seen. seen)
+      strict = strict_by _ (λ (o : Onlooker _ _ _). sight o.looks.frames o.found o.has_deadlines) (λ xs s t seen. seen)
           (found_of c.args.matches.now) _ c.answer_job-writer.result.0 c.judged.result c.new-onlooker.result c.answer_job-writer.new.watch c.has_found.result
-          (ap (λ l. l.frames) c.new-onlooker.ensures.looks ∙ looks.frames) c.new-onlooker.ensures.found (λ some. last ∙ after.kept some)
+          (ap (λ l. l.frames) c.new-onlooker.ensures.looks ∙ looks.frames) c.new-onlooker.ensures.found c.new-onlooker.ensures.timed (λ some. last ∙ after.kept some)
           (rw looks.strict at c.judged.ensures.status) c.args.name c.answer_job-writer.ensures.watched (λ none. last ∙ after.same none);
     }

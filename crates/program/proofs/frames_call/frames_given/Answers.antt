@@ -3,6 +3,7 @@ use Rattle.octet_writer.specs.Buffered.{writer_contents}
 use Rattle.std.specs.Prelude.{IfErr, codes}
 use Rattle.clap.specs.Matches.{first_value, found_of}
 use Rattle.program.specs.Given.{IsGivenFrames, frames_settings}
+use Rattle.program.specs.Strict.{IsWatchedByFiles}
 use Rattle.program.proofs.frames_call.frames_given.Goals as goal
 
 pub returns-in-None-clause-ending : goal.returns-in-None-clause-ending
@@ -22,3 +23,13 @@ returns-in-Some-clause-ending g c =
 
 pub returns-in-Some-clause-unread : goal.returns-in-Some-clause-unread
 returns-in-Some-clause-unread g c = subst (λ (capture : Option (List ℕ)). IfErr (frames_settings capture (found_of c.args.matches.now)) (λ _. c.frames_of_capture.new.reader ≡ c.args.reader.now)) c.in-Some.ensures c.frames_of_capture.ensures.unread
+
+pub returns-in-None-clause-watched : goal.returns-in-None-clause-watched
+returns-in-None-clause-watched g c =
+    let out = c.frames_of_script in
+    subst (λ (capture : Option (List ℕ)). IsWatchedByFiles g.H.Watch.alerted (found_of c.args.matches.now) capture (first_value (found_of c.args.matches.now) (codes "by-stream")) (g.R.Read.remaining c.args.reader.now) out.result.0 c.args.watch.now out.new.watch) c.in-None.ensures out.ensures.watched
+
+pub returns-in-Some-clause-watched : goal.returns-in-Some-clause-watched
+returns-in-Some-clause-watched g c =
+    let out = c.frames_of_capture in
+    subst (λ (capture : Option (List ℕ)). IsWatchedByFiles g.H.Watch.alerted (found_of c.args.matches.now) capture (first_value (found_of c.args.matches.now) (codes "by-stream")) (g.R.Read.remaining c.args.reader.now) out.result.0 c.args.watch.now out.new.watch) c.in-Some.ensures out.ensures.watched

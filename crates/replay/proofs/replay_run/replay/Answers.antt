@@ -22,7 +22,7 @@ returns-in_err-script-clause-replay g c = λ read is. (
     let old = got (g.V.Write.contents c.args.report.now) (g.W.Write.contents c.args.departures.now) in
     let late : is_too_late s.until ≡ false = sym (ap is_too_late c.until-until.ensures.value) ∙ sym c.is_too_late.ensures ∙ c.if-is_too_late.false in
     when_known (g.R.Read.remaining c.args.script) _ (λ lines known. when_known (g.S.Read.remaining c.args.capture) _ (λ octets known'. λ records reads.
-    script_refused read s c.args.stamp lines records late (Unit {0}) c.in_err-script.field-0.0 r old (p.1 ∙ ap Err p.2) (rw known at c.in_err-script.ensures read is))))
+    script_refused read s c.args.stamp lines records late (Unit {0}) c.in_err-script.field-0.0 r old (p.1 ∙ ap Err p.2) (rw known at c.in_err-script.ensures.script read is))))
 
 pub returns-in_err-records-clause-replay : goal.returns-in_err-records-clause-replay
 returns-in_err-records-clause-replay g c = λ read is. (
@@ -32,7 +32,7 @@ returns-in_err-records-clause-replay g c = λ read is. (
     let old = got (g.V.Write.contents c.args.report.now) (g.W.Write.contents c.args.departures.now) in
     let late : is_too_late s.until ≡ false = sym (ap is_too_late c.until-until.ensures.value) ∙ sym c.is_too_late.ensures ∙ c.if-is_too_late.false in
     when_known (g.R.Read.remaining c.args.script) _ (λ lines known. when_known (g.S.Read.remaining c.args.capture) _ (λ octets known'. λ records reads.
-    let given = rw known at c.in_ok-script.ensures read is in
+    let given = rw known at c.in_ok-script.ensures.script read is in
     header_refused s c.args.stamp (reading_of read (script_of lines)).requests octets records reads (outcome_of read s c.args.stamp lines records) (outcome_good read s c.args.stamp lines records late given.0)
     (Unit {0}) (g.S.Read.remaining c.args.capture) c.in_err-records.field-0.0 r old known' (p.1 ∙ ap Err p.2) c.in_err-records.ensures.fault)))
 
@@ -46,7 +46,7 @@ returns-in_err-sending-clause-replay g c = λ read is. (
     let mid = got report (g.W.Write.contents c.begin.new.departures) in
     let late : is_too_late s.until ≡ false = sym (ap is_too_late c.until-until.ensures.value) ∙ sym c.is_too_late.ensures ∙ c.if-is_too_late.false in
     when_known (g.R.Read.remaining c.args.script) _ (λ lines known. when_known (g.S.Read.remaining c.args.capture) _ (λ octets known'. λ records reads.
-    let given = rw known at c.in_ok-script.ensures read is in
+    let given = rw known at c.in_ok-script.ensures.script read is in
     let found = opened g.S.Read.remaining (g.S.Read.remaining c.args.capture) (left c.in_ok-records.records) octets records c.in_ok-records.ensures.ok known' reads in
     let all = outcome_all read s c.args.stamp lines records late given.0 found.0 found.1 found.2 (reading_of read (script_of lines)).requests s.until (new_port s.rate s.mtu s.room) (watched s.summary s.room) refl refl refl refl in
     let P : Outcome → Type 0 = λ o. Ends r old mid o in
@@ -62,7 +62,7 @@ returns-clause-replay g c = λ read is. (
     let new = got (g.V.Write.contents c.run.new.report) (g.W.Write.contents c.run.new.departures) in
     let late : is_too_late s.until ≡ false = sym (ap is_too_late c.until-until.ensures.value) ∙ sym c.is_too_late.ensures ∙ c.if-is_too_late.false in
     when_known (g.R.Read.remaining c.args.script) _ (λ lines known. when_known (g.S.Read.remaining c.args.capture) _ (λ octets known'. λ records reads.
-    let given = rw known at c.in_ok-script.ensures read is in
+    let given = rw known at c.in_ok-script.ensures.script read is in
     let found = opened g.S.Read.remaining (g.S.Read.remaining c.args.capture) (left c.in_ok-records.records) octets records c.in_ok-records.ensures.ok known' reads in
     let es = found.0 in
     let last = found.1 in

@@ -2,6 +2,7 @@ use Rattle.std.proofs.Common.{◌≡◌, ℕ, arith, Ok, Err, Option, Some, None
 use Rattle.script.specs.declared.faults.ScriptFault.{ScriptFault}
 use Rattle.traffic.specs.Words.{FrameCount, IsCount, Stream, TakesLine, counted_with, frame_count, line_judged, script_left, words_of}
 use Rattle.traffic.specs.declared.table_reader.Untaken.{Untaken}
+use Rattle.traffic.proofs.AlertLaws.{tells_all, tells_begun, tells_no_more, tells_on, tells_stop, told_as}
 use Rattle.traffic.proofs.CountedLaws.{all_counted, count_more, counts_on}
 use Rattle.traffic.proofs.CountedLaws.{begun as counting}
 use Rattle.traffic.proofs.TableLaws.{Goes, begun, ends, goes_on, goes_past, stops, untaken}
@@ -20,6 +21,7 @@ lines-init g c = record {
   goes = begun (g.T.StreamTaker.judge c.args.taker.now) _ _;
   few = λ none. (ap frame_count none, omega arith);
   counts = counting (g.T.StreamTaker.judge c.args.taker.now) _;
+  alerts = tells_begun g.H.Watch.alerted g.T.StreamTaker.tells (g.T.StreamTaker.judge c.args.taker.now) g.met.H.Watch.nothing _ c.args.watch.now;
 }
 
 pub lines-preserved-in-Ok-None : goal.lines-preserved-in-Ok-None
@@ -34,6 +36,7 @@ lines-preserved-in-Ok-None g c =
       goes = subst P (sym is.1) (goes_past judge _ _ _ _ _ _ _ c.lines.invariant.goes a is.0);
       few = λ none. subst (λ (now : List Stream). IsCount c.lines.counted (frame_count now)) (sym is.1) (c.lines.invariant.few none);
       counts = counts_on judge _ _ _ _ _ _ _ _ c.lines.invariant.counts a is.0 refl;
+      alerts = tells_on g.H.Watch.alerted g.T.StreamTaker.tells judge g.met.H.Watch.both _ _ None _ _ _ _ _ _ c.lines.invariant.alerts a is.0 (told_as g.H.Watch.alerted g.T.StreamTaker.tells judge _ c.advance.new.self.first (words_of line) _ _ c.lines.invariant.judge (rw (c.line_number.ensures, c.line.ensures) at c.take_line.ensures.alerts));
     }
 
 pub lines-preserved : goal.lines-preserved
@@ -50,6 +53,7 @@ lines-preserved g c =
       goes = subst P (sym is.1) (goes_on judge _ _ _ _ _ _ _ stream c.lines.invariant.goes a is.0);
       few = λ none. count_more c.advance.new.self.first c.lines.counted c.with-counted.result _ _ stream counted is.1 (c.lines.invariant.few none);
       counts = counts_on judge _ _ _ _ _ _ _ _ c.lines.invariant.counts a is.0 counted;
+      alerts = tells_on g.H.Watch.alerted g.T.StreamTaker.tells judge g.met.H.Watch.both _ _ (Some stream) _ _ _ _ _ _ c.lines.invariant.alerts a is.0 (told_as g.H.Watch.alerted g.T.StreamTaker.tells judge _ c.advance.new.self.first (words_of line) _ _ c.lines.invariant.judge (rw (c.line_number.ensures, c.line.ensures) at c.take_line.ensures.alerts));
     }
 
 pub returns-in-Err-clause-table : goal.returns-in-Err-clause-table
@@ -62,7 +66,7 @@ returns-in-Err-take_line-clause-table g c =
     let a = rw c.if-not-more.false at c.in-Ok.ensures.line in
     let line = c.advance.new.self.line.items in
     let is = taken_as judge _ (Err c.in-Err-take_line.why) (words_of line) (g.T.StreamTaker.taken c.lines.taker) (g.T.StreamTaker.taken c.take_line.new.taker) c.lines.invariant.judge (rw c.line.ensures at c.in-Err-take_line.ensures.taken) in
-    let number = rw c.line_number-in-Err-take_line.ensures at c.line_fault.ensures in
+    let number = rw c.line_number-in-Err-take_line.ensures at c.line_fault.ensures.fault in
     untaken judge _ _ {T = FrameCount} c.in-Err-take_line.why c.line_fault.result _ _ _ _ _ _ _ _ c.lines.invariant.goes a is number refl
 
 pub returns-clause-table : goal.returns-clause-table
@@ -74,3 +78,22 @@ pub returns-clause-counted : goal.returns-clause-counted
 returns-clause-counted g c =
     let a = rw c.if-not-more.true at c.in-Ok.ensures.line in
     all_counted (g.T.StreamTaker.judge c.args.taker.now) _ _ _ _ _ _ c.lines.invariant.counts a
+
+pub returns-in-Err-clause-alerts : goal.returns-in-Err-clause-alerts
+returns-in-Err-clause-alerts g c =
+    tells_stop g.H.Watch.alerted g.T.StreamTaker.tells (g.T.StreamTaker.judge c.args.taker.now) {T = FrameCount} _ _ _ _ _ _ _ _ _ c.lines.invariant.alerts c.in-Err.ensures.line (ap Err c.from.ensures)
+
+pub returns-in-Err-take_line-clause-alerts : goal.returns-in-Err-take_line-clause-alerts
+returns-in-Err-take_line-clause-alerts g c =
+    let judge = g.T.StreamTaker.judge c.args.taker.now in
+    let a = rw c.if-not-more.false at c.in-Ok.ensures.line in
+    let line = c.advance.new.self.line.items in
+    let is = taken_as judge _ (Err c.in-Err-take_line.why) (words_of line) (g.T.StreamTaker.taken c.lines.taker) (g.T.StreamTaker.taken c.take_line.new.taker) c.lines.invariant.judge (rw c.line.ensures at c.in-Err-take_line.ensures.taken) in
+    let number = rw c.line_number-in-Err-take_line.ensures at c.line_fault.ensures.fault in
+    let told = told_as g.H.Watch.alerted g.T.StreamTaker.tells judge _ c.advance.new.self.first (words_of line) _ _ c.lines.invariant.judge (rw (c.line_number.ensures, c.line.ensures) at c.take_line.ensures.alerts) in
+    tells_no_more g.H.Watch.alerted g.T.StreamTaker.tells judge g.met.H.Watch.both _ _ {T = FrameCount} c.in-Err-take_line.why c.line_fault.result _ _ _ _ _ _ _ _ _ _ c.lines.invariant.alerts a is number told c.line_fault.ensures.alerts refl
+
+pub returns-clause-alerts : goal.returns-clause-alerts
+returns-clause-alerts g c =
+    let a = rw c.if-not-more.true at c.in-Ok.ensures.line in
+    tells_all g.H.Watch.alerted g.T.StreamTaker.tells (g.T.StreamTaker.judge c.args.taker.now) {T = FrameCount} c.lines.counted _ _ _ _ _ _ _ _ c.lines.invariant.alerts a refl
