@@ -49,6 +49,8 @@ fn value_text(kind: ValueKind) -> &'static [u8] {
         ValueKind::Until =>
             b"--until is picoseconds, or a number with its unit such as 2ms, at most 9223372036854775807000 ps; of a replay 4294967296 s",
         ValueKind::Stamp => b"--stamp is start or end",
+        ValueKind::Seed =>
+            b"--seed is a whole number from 0 to 18446744073709551615, and not beside --late",
         ValueKind::From =>
             b"--from is picoseconds, or a number with its unit such as 2ms, at most 9223372036854775807000 ps; of a picture 9223372036854774807000 ps",
         ValueKind::To =>

@@ -4,7 +4,7 @@ use crate::marks::{Hint, put_hint, span_at};
 use abstract_port::Dropped;
 use answer_text::{Part, WriteFault, dropped_name, put_parts};
 use octet_writer::put;
-use script::Missed;
+use script::{Basis, Missed};
 use std::io::Write;
 
 /// The ids of the frames of a stream, and the number of its line in a table.
@@ -157,6 +157,69 @@ pub fn put_busy_class<W: Write>(
             Part::Text(
                 b"\n    after a frame that is added once, those behind it can be late for ever\n",
             ),
+        ],
+    )
+}
+
+/// For which frames the bounds of a class are found, and the premise that is the weakest.
+fn put_premise<W: Write>(writer: &mut W, basis: Basis) -> Result<(), WriteFault> {
+    match basis {
+        Basis::ExactMoments => put(
+            writer,
+            b" for exact moments\n    if a frame may be later than its moment, by 1 ns too, give its stream a jitter\n",
+        ),
+        Basis::Windows => put(
+            writer,
+            b" for windows\n    no frame may come before its moment, nor after its jitter, by the clock of the port\n",
+        ),
+        Basis::AnyMoments(id) => put_parts(
+            writer,
+            &[
+                Part::Text(b" for any moments, since stream "),
+                Part::Number(u128::from(id)),
+                Part::Text(
+                    b" has the offset any\n    the frames of a stream may come no nearer than its period less its jitter\n",
+                ),
+            ],
+        ),
+        Basis::ManyFrames => put(
+            writer,
+            b" for any moments, since its windows come again after more frames than --frames\n    with more --frames its bounds may be lower\n",
+        ),
+    }
+}
+
+/// Writes for which frames the bounds of a class are found, by the schedule of the line of this number.
+pub fn put_basis<W: Write>(
+    writer: &mut W,
+    number: u32,
+    class: u8,
+    basis: Basis,
+) -> Result<(), WriteFault> {
+    put_parts(
+        writer,
+        &[
+            Part::Text(b"taprio_port: note: script line "),
+            Part::Number(u128::from(number)),
+            Part::Text(b": class "),
+            Part::Number(u128::from(class)),
+            Part::Text(b" is bounded"),
+        ],
+    )?;
+    put_premise(writer, basis)
+}
+
+/// Writes when a frame of the stream with this first id would end at the latest, if no stream of its class came at any
+/// moments.
+pub fn put_end_without<W: Write>(writer: &mut W, id: u64, end: u128) -> Result<(), WriteFault> {
+    put_parts(
+        writer,
+        &[
+            Part::Text(b"    without such streams, stream "),
+            Part::Number(u128::from(id)),
+            Part::Text(b" would end within "),
+            Part::Number(end),
+            Part::Text(b"\n"),
         ],
     )
 }

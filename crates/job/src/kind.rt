@@ -96,6 +96,8 @@ pub enum ValueKind {
     Until,
     /// `bad value of --stamp`.
     Stamp,
+    /// `bad value of --seed`.
+    Seed,
     /// `bad value of --from`.
     From,
     /// `bad value of --to`.

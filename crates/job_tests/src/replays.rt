@@ -3,7 +3,7 @@
 use abstract_port::Dropped;
 use job::{Ended, say_fault};
 use replay::{ReplayFault, ReplayInput, Stamp, replay};
-use script::{Failure, Missed, Settings, Unwatched, Watch};
+use script::{Basis, Failure, Missed, Settings, Unwatched, Watch};
 use std::alloc::{Allocator, Global};
 use std::io::{self, Read};
 use std::test::Fail;
@@ -182,6 +182,10 @@ impl Watch for Seen {
     fn line_passed(&mut self, _number: u32, _line: &[u8]) {}
 
     fn class_is_busy(&mut self, _number: u32, _class: u8, _every: u128) {}
+
+    fn class_judged(&mut self, _number: u32, _class: u8, _basis: Basis) {}
+
+    fn ends_without(&mut self, _first_id: u64, _end: u128) {}
 
     fn stream_read(&mut self, _number: u32, _first_id: u64, _count: u32, _has_deadline: bool) {}
 

@@ -42,6 +42,7 @@ value_kind Values.To = Options.To
 value_kind Values.Width = Options.Width
 value_kind Values.Map = Options.Map
 value_kind Values.Frame = Options.Frame
+value_kind Values.Seed = Options.Seed
 
 -- of a script
 abbrev pub script_kind : BadLine → FaultKind

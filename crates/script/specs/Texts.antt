@@ -29,6 +29,7 @@ option_name Values.To = codes "--to"
 option_name Values.Width = codes "--width"
 option_name Values.Map = codes "--map"
 option_name Values.Frame = codes "--frame"
+option_name Values.Seed = codes "--seed"
 
 -- the text of a bad value
 abbrev pub value_text : BadValue → List ℕ

@@ -163,6 +163,7 @@ fn option_name(value: BadValue) -> &'static [u8]
         BadValue::Width => b"--width",
         BadValue::Map => b"--map",
         BadValue::Frame => b"--frame",
+        BadValue::Seed => b"--seed",
     }
 }
 

@@ -57,6 +57,8 @@ pub enum BadValue {
     Map,
     /// The length of a frame is not 0 to 4294967295 octets.
     Frame,
+    /// The seed is not a number of 64 bits, or stands beside another word that says when frames come.
+    Seed,
 }
 
 impl BadValue {
@@ -74,6 +76,7 @@ impl BadValue {
             BadValue::Width => ValueKind::Width,
             BadValue::Map => ValueKind::Map,
             BadValue::Frame => ValueKind::Frame,
+            BadValue::Seed => ValueKind::Seed,
         }
     }
 }

@@ -29,6 +29,20 @@ pub enum Missed {
     Left,
 }
 
+/// By what the bounds of a class are found.
+#[derive(Clone, Copy, Debug, PartialEq, Eq)]
+pub enum Basis {
+    /// Each frame comes at its exact moment.
+    ExactMoments,
+    /// Each frame comes in a window of its own.
+    Windows,
+    /// Frames come at any moments: the stream with this first id has no offset.
+    AnyMoments(u64),
+    /// Each frame comes in a window, but these come again only after more frames than are looked at: it is bounded as if
+    /// frames came at any moments.
+    ManyFrames,
+}
+
 /// Who watches a run. Nothing that it does changes what is written.
 ///
 /// What may count for strictness is told as an alert, and contracts of runs say which alerts are told, in order. Of the
@@ -80,6 +94,15 @@ pub trait Watch {
     fn class_is_busy(&mut self, number: u32, class: u8, every: u128)
         ensures { alerted [] self.old self.new };
 
+    /// By the schedule of the line of this number the class has bounds, which are found by this.
+    fn class_judged(&mut self, number: u32, class: u8, basis: Basis)
+        ensures { alerted [] self.old self.new };
+
+    /// In its class without the streams whose frames come at any moments, a frame of the stream with this first id would
+    /// end so long after its nominal moment at the latest, in picoseconds.
+    fn ends_without(&mut self, first_id: u64, end: u128)
+        ensures { alerted [] self.old self.new };
+
     /// The line of this number of a table is a stream of so many frames, whose ids count from this one. It may have a
     /// deadline.
     fn stream_read(&mut self, number: u32, first_id: u64, count: u32, has_deadline: bool)
@@ -121,6 +144,10 @@ impl Watch for Unwatched {
     fn line_passed(&mut self, _number: u32, _line: &[u8]) {}
 
     fn class_is_busy(&mut self, _number: u32, _class: u8, _every: u128) {}
+
+    fn class_judged(&mut self, _number: u32, _class: u8, _basis: Basis) {}
+
+    fn ends_without(&mut self, _first_id: u64, _end: u128) {}
 
     fn stream_read(&mut self, _number: u32, _first_id: u64, _count: u32, _has_deadline: bool) {}
 
