@@ -97,6 +97,7 @@ fn table_tells(alloc: Global) -> io::Result<bool> {
     let words = StreamsWords {
         from: None,
         late: false,
+        seed: None,
     };
     let (ended, written) = answer_streams(
         &heap,

@@ -14,9 +14,9 @@ use Rattle.traffic.specs.declared.plan.Timing.{Timing}
 use Rattle.traffic.specs.declared.plan.Timing.TheVariants.{Earliest, Latest, Drawn}
 use Rattle.traffic.specs.declared.table.Stream.{Stream}
 
--- each frame at its earliest moment
-abbrev pub earliest_from : ℕ → Plan
-earliest_from from = record { from = from; timing = Earliest }
+-- offsets count from a moment
+abbrev pub timed_from : Timing → ℕ → Plan
+timed_from timing from = record { from = from; timing = timing }
 
 -- 1. Streams whose frames can be frames of a script
 

@@ -1,5 +1,6 @@
 -- What a run of the program on a table and a script leaves: its exit status, what the writer got, and the text of a fault.
-use Rattle.std.specs.Prelude.{List, ℕ, Bool, if◌then◌else◌, Option, Some, None, Result, Ok, Err, IfSome, unwrap_or, codes}
+use Rattle.words.specs.Numbers.{number_in}
+use Rattle.std.specs.Prelude.{List, ℕ, ◌-◌, ◌^◌, Bool, true, false, if◌then◌else◌, Option, Some, None, Result, Ok, Err, IfSome, unwrap_or, codes}
 use Rattle.wire_time.specs.Moment.{greatest_moment}
 use Rattle.times.specs.Times.{moment_in}
 use Rattle.script.specs.Given.{octets_of}
@@ -13,7 +14,7 @@ use Rattle.traffic.specs.Faults.{streams_telling}
 use Rattle.traffic.specs.Outcome.{outcome_of}
 use Rattle.traffic.specs.declared.plan.Plan.{Plan}
 use Rattle.traffic.specs.declared.plan.Timing.{Timing}
-use Rattle.traffic.specs.declared.plan.Timing.TheVariants.{Earliest, Latest}
+use Rattle.traffic.specs.declared.plan.Timing.TheVariants.{Earliest, Latest, Drawn}
 use Rattle.traffic.specs.declared.streams_job.StreamsWords.{StreamsWords}
 
 -- The end of a run by a plan: what the writer got, with what no write let out, is what is to be written for the octets of
@@ -31,25 +32,34 @@ moment_where None = Err Values.From
 abbrev pub from_given : Option (List ℕ) → Result ℕ BadValue
 from_given from = moment_where (moment_in greatest_moment (unwrap_or from (codes "0")))
 
--- when frames come
-abbrev pub timing_given : Bool → Timing
-timing_given late = if late then Latest else Earliest
+-- when frames come by a seed, if it is one
+abbrev pub drawn_where : Option ℕ → Result Timing BadValue
+drawn_where (Some seed) = Ok (Drawn seed)
+drawn_where None = Err Values.Seed
+
+-- When frames come: as a seed of 64 bits draws it, where one is given; else as late as they may, where that is asked, or as early. Both are not asked at once.
+abbrev pub timing_given : Bool → Option (List ℕ) → Result Timing BadValue
+timing_given late None = Ok (if late then Latest else Earliest)
+timing_given true (Some seed) = Err Values.Seed
+timing_given false (Some seed) = drawn_where (number_in 10 (2 ^ 64 - 1) seed)
 
 -- the words that stand as the values of the options
 pub record GivenWords : Type 0 where
   pub from : Option (List ℕ)
   pub late : Bool
+  pub seed : Option (List ℕ)
 
 abbrev pub words_of_streams : StreamsWords → GivenWords
-words_of_streams words = record { from = octets_of words.from; late = words.late }
+words_of_streams words = record { from = octets_of words.from; late = words.late; seed = octets_of words.seed }
 
--- what is given to the options
-abbrev pub plan_where : Bool → Result ℕ BadValue → Result Plan BadValue
-plan_where late (Ok from) = Ok (record { from = from; timing = timing_given late })
-plan_where late (Err value) = Err value
+-- what is given to the options: the first bad value is the fault
+abbrev pub plan_where : Result ℕ BadValue → Result Timing BadValue → Result Plan BadValue
+plan_where (Ok from) (Ok timing) = Ok (record { from = from; timing = timing })
+plan_where (Ok from) (Err value) = Err value
+plan_where (Err value) timing = Err value
 
 abbrev pub plan_given : GivenWords → Result Plan BadValue
-plan_given words = plan_where words.late (from_given words.from)
+plan_given words = plan_where (from_given words.from) (timing_given words.late words.seed)
 
 -- by the plan that is given
 abbrev pub IsStreamsEnding : Result Plan BadValue → (table script : Option (List ℕ)) → Ended → (old got errors_old errors_new : Option (List ℕ)) → Type 0

@@ -11,7 +11,7 @@ pub use Rattle.job.specs.Outcome.{Runs}
 pub use Rattle.job.specs.declared.fault.Fault.{Fault}
 pub use Rattle.script.specs.Given.{octets_of}
 pub use Rattle.script.specs.Outcome.{limit_fault}
-pub use Rattle.traffic.specs.StreamsEnd.{IsStreamsEnding, from_given, plan_given, words_of_streams}
+pub use Rattle.traffic.specs.StreamsEnd.{IsStreamsEnding, drawn_where, from_given, plan_given, timing_given, words_of_streams}
 pub use Rattle.traffic.specs.Faults.{script_fault, streams_telling, table_fault}
 pub use Rattle.traffic.specs.Frames.{IsCourse, first_of, frame_after, frames_in_turn, frames_of, late_by, length_of_frame, moment_after, next_of_stream}
 unfoldable pub use Rattle.traffic.specs.Frames.{by_moment, frames_after, reached_by}

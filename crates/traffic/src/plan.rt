@@ -31,11 +31,12 @@ pub struct Plan {
 }
 
 impl Plan {
-    ghost use Rattle.traffic.specs.Plan.{earliest_from};
+    ghost use Rattle.traffic.specs.Plan.{timed_from};
+    ghost use Rattle.traffic.specs.declared.plan.Timing.TheVariants.{Earliest};
 
     /// Each frame at its earliest moment, with offsets that count from this moment, in picoseconds.
     pub fn earliest(from: u128) -> Plan
-        ensures { result ≡ earliest_from from }
+        ensures { result ≡ timed_from Earliest from }
     {
         Plan {
             from,

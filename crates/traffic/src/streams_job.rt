@@ -2,7 +2,9 @@
 
 ghost use Rattle.std.specs.Prelude.{◌≡◌, ◌≤◌, IfErr, IfOk};
 ghost use Rattle.octet_writer.specs.Buffered.{writer_contents};
-ghost use Rattle.traffic.specs.Words.{octets_of, IsStreamsEnding, from_given, greatest_moment, plan_given, words_of_streams};
+ghost use Rattle.traffic.specs.Words.{octets_of, IsStreamsEnding, drawn_where, from_given, greatest_moment, plan_given, timing_given, words_of_streams};
+ghost use Rattle.traffic.specs.declared.streams_job.TheConstants.{GREATEST_SEED};
+ghost use Rattle.words.specs.Numbers.{number_in};
 
 use crate::plan::{Plan, Timing};
 use crate::streams::write_streams;
@@ -13,6 +15,10 @@ use std::alloc::Allocator;
 use std::io::{Read, Write};
 use times::moment;
 use wire_time::MAX_MOMENT;
+use words::number;
+
+/// The greatest seed.
+const GREATEST_SEED: u128 = u64::MAX as u128;
 
 /// The words that stand as the values of the options.
 #[derive(Clone, Copy, Debug)]
@@ -21,6 +27,8 @@ pub struct StreamsWords<'a> {
     pub from: Option<&'a str>,
     /// Whether each frame comes as late as it may.
     pub late: bool,
+    /// What draws when frames come, and how long they are; not where they come as late as they may.
+    pub seed: Option<&'a str>,
 }
 
 /// The moment that is given, in picoseconds, 0 where none is; or that it is bad: no moment, or after the greatest one.
@@ -35,18 +43,39 @@ fn from_given(from: Option<&str>) -> Result<u128, BadValue>
     }
 }
 
-/// What is given: a bad moment is refused.
+/// When frames come by a seed; or that it is bad: no number of 64 bits.
+fn drawn_by(seed: &str) -> Result<Timing, BadValue>
+    ensures { result ≡ drawn_where (number_in 10 GREATEST_SEED seed.now) }
+{
+    match number(seed.as_bytes(), GREATEST_SEED) {
+        Some(seed) => Ok(Timing::Drawn(seed as u64)),
+        None => Err(BadValue::Seed),
+    }
+}
+
+/// When frames come; or that the seed is bad, or stands beside the word that they come late.
+fn timing_given(late: bool, seed: Option<&str>) -> Result<Timing, BadValue>
+    ensures { result ≡ timing_given late (octets_of seed.entry) }
+{
+    match seed {
+        Some(_) if late => Err(BadValue::Seed),
+        Some(seed) => drawn_by(seed),
+        None if late => Ok(Timing::Latest),
+        None => Ok(Timing::Earliest),
+    }
+}
+
+/// What is given: a bad moment is refused, and a bad seed.
 pub fn plan_given(words: StreamsWords<'_>) -> Result<Plan, BadValue>
     ensures given { result ≡ plan_given (words_of_streams words.entry) }
     ensures within { IfOk result (λ plan. plan.from ≤ greatest_moment) }
 {
-    let timing = if words.late {
-        Timing::Latest
-    } else {
-        Timing::Earliest
+    let from = match from_given(words.from) {
+        Ok(from) => from,
+        Err(value) => return Err(value),
     };
-    match from_given(words.from) {
-        Ok(from) => Ok(Plan { from, timing }),
+    match timing_given(words.late, words.seed) {
+        Ok(timing) => Ok(Plan { from, timing }),
         Err(value) => Err(value),
     }
 }
