@@ -4,8 +4,8 @@
 //! What is answered is that of `burst_bounds`: specs/Least.antt, or else specs/Answer.antt.
 #![tactic(auto)]
 
-mod arrivals;
-mod busy;
+pub mod arrivals;
+pub mod busy;
 pub mod laws;
 mod moments;
 pub mod rate;
