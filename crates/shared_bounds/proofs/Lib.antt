@@ -1,0 +1,14 @@
+pub mod OpenForLaws
+pub mod FlatLaws
+pub mod BlockingLaws
+pub mod TrafficLaws
+pub mod OpeningLaws
+pub mod SlotLaws
+pub mod ForLaws
+pub mod NearLaws
+pub mod NextLaws
+pub mod BusyLaws
+pub mod PeriodLaws
+pub mod WalkLaws
+pub mod RunLaws
+pub mod ShareLaws

@@ -1,0 +1,80 @@
+-- The least bounds of a class that shares its windows.
+use Rattle.std.specs.Prelude.{◌≡◌, ◌<◌, ◌≤◌, ◌+◌, ℕ, List, All, length}
+use Rattle.gate_list.specs.Gate.{Plan, in_ps}
+use Rattle.list_config.specs.History.{Accepted}
+use Rattle.abstract_port.specs.declared.Event.{Event}
+use Rattle.any_traffic.specs.SharedBounds.{AreSharedBounds, IsSharedBusyPeriod}
+use Rattle.any_traffic.specs.SharedRuns.{IsSharedInTime, IsSharedRun}
+use Rattle.any_traffic.specs.SharedSlots.{IsBlocking}
+use Rattle.shared_bounds.specs.Blocking.{blocking}
+use Rattle.shared_bounds.specs.Sharing.{AreHigher, pitch_of}
+use Rattle.shared_bounds.specs.Traffic.{IsTraffic, arrivals_of, needs, start_curves}
+use Rattle.shared_bounds.specs.Unbound.{IsBlockedIn, IsLongIn, IsStuckIn}
+use Rattle.shared_bounds.specs.declared.ClassTraffic.{ClassTraffic}
+use Rattle.shared_bounds.specs.declared.Unbound.{Unbound}
+use Rattle.shared_bounds.specs.declared.Unbound.TheVariants.{Blocked, Long, Memory, Stuck}
+
+module _ (plan : Plan) (class : ℕ) (need blocking : ℕ → ℕ) (pitch : ℕ) (curve : ℕ → ℕ) (curves : ℕ → ℕ → ℕ) (higher : List ℕ) where
+  -- Bounds that hold in the busy period from each moment on: so they hold in every run (`SharedBusyLaw`).
+  abbrev pub AreBusyBounds : (wait most : ℕ) → Type 0
+  AreBusyBounds wait most = (t : ℕ) → IsSharedBusyPeriod plan class need blocking pitch curve curves higher wait most t
+
+  -- And no others have a shorter wait or fewer frames that wait at once: neither bounds of busy periods nor such as hold at all moments of
+  -- all times.
+  pub record AreLeast (wait most : ℕ) : Type 0 where
+    pub are : AreBusyBounds wait most
+    pub wait_least : (w m : ℕ) → AreBusyBounds w m → wait ≤ w
+    pub most_least : (w m : ℕ) → AreBusyBounds w m → most ≤ m
+    pub wait_always : (w m : ℕ) → AreSharedBounds plan class need blocking pitch curve curves higher w m → wait ≤ w
+    pub most_always : (w m : ℕ) → AreSharedBounds plan class need blocking pitch curve curves higher w m → most ≤ m
+
+module _ (plan : Plan) (class : ℕ) (traffic : List ClassTraffic) where
+  -- the least bounds, by what is known of the classes: with the higher ones that share, the least blocking and the pitch
+  pub record AreLeastOf (wait most : ℕ) : Type 0 where
+    pub higher : List ℕ
+    pub share : AreHigher plan class higher
+    pub least : AreLeast plan class (needs traffic) (blocking plan class (needs traffic)) (pitch_of (needs traffic) class higher)
+        (arrivals_of traffic class) (start_curves traffic) higher wait most
+
+  -- no window takes the longest frame behind one of another class, but some takes it
+  pub record IsBlockedOf : Type 0 where
+    pub higher : List ℕ
+    pub share : AreHigher plan class higher
+    pub taken : IsStuckIn plan class (needs traffic) → ⊥
+    pub blocked : IsBlockedIn plan class (needs traffic) (pitch_of (needs traffic) class higher)
+
+  -- from some moment on the busy period has more than so many slots
+  pub record IsLongOf (limit : ℕ) : Type 0 where
+    pub higher : List ℕ
+    pub share : AreHigher plan class higher
+    pub long : IsLongIn plan class (needs traffic) (pitch_of (needs traffic) class higher) (arrivals_of traffic class) (start_curves traffic)
+        higher limit
+
+  -- why it has no bounds, where so many slots of a busy period may be looked at
+  abbrev pub IsUnbound : (limit : ℕ) → Unbound → Type 0
+  IsUnbound limit Stuck = IsStuckIn plan class (needs traffic)
+  IsUnbound limit Blocked = IsBlockedOf
+  IsUnbound limit Long = IsLongOf limit
+  IsUnbound limit Memory = Unit {0}
+
+-- The law of the least blocking: where each class that is known is one of the eight, it is a blocking of the plan, no other is less
+-- anywhere, what has the wire at one moment has it no longer than from a later one on, and it repeats with the cycle behind the change
+-- moment.
+pub record IsLeastBlocking (plan : Plan) (class : ℕ) (need : ℕ → ℕ) : Type 0 where
+  pub is : IsBlocking plan class need (blocking plan class need)
+  pub least : (other : ℕ → ℕ) → IsBlocking plan class need other → (u : ℕ) → blocking plan class need u ≤ other u
+  pub gradual : (u v : ℕ) → u ≤ v → u + blocking plan class need u ≤ v + blocking plan class need v
+  pub again : (u : ℕ) → 0 < u → blocking plan class need (u + in_ps plan.cycle) ≡ blocking plan class need u
+
+abbrev pub BlockingLaw : Type 0
+BlockingLaw = (plan : Plan) (class : ℕ) (need : ℕ → ℕ) → 0 < plan.cycle → ((j : ℕ) → 8 ≤ j → need j ≡ 0) → IsLeastBlocking plan class need
+
+-- The law: in every run in which the frames of each class are as it is known of them the least bounds hold.
+abbrev pub LeastLaw : Type 0
+LeastLaw =
+    (ps mtu room class wait most : ℕ) (traffic : List ClassTraffic) (higher : List ℕ) (a : Accepted) (plan : Plan) (events : List Event)
+    → length traffic ≡ 8 → All IsTraffic traffic → AreHigher plan class higher
+    → AreLeast plan class (needs traffic) (blocking plan class (needs traffic)) (pitch_of (needs traffic) class higher)
+    (arrivals_of traffic class) (start_curves traffic) higher wait most
+    → IsSharedRun ps mtu room events class (needs traffic) (arrivals_of traffic class) (start_curves traffic) higher a plan
+    → IsSharedInTime ps mtu room events class wait most

@@ -1,0 +1,9 @@
+pub mod Traffic
+pub mod Blocking
+pub mod Sharing
+pub mod Unbound
+pub mod Place
+pub mod Slots
+pub mod Busy
+pub mod Near
+pub mod Least
