@@ -1,0 +1,16 @@
+//! What bounds of frames that come late, or at any moments, are worth in every run of a port; and that there are such
+//! runs.
+//!
+//! There is nothing to run here: the claim is specs/LateClaim.antt, and the function's contract says that it holds.
+#![tactic(auto)]
+
+ghost use Rattle.late_claim.specs.LateClaim.{CurveClaim, LateRunsExist, WindowClaim};
+
+/// The claim of windows, the claim of any moments, and that there are runs of which both speak: for each schedule that a
+/// new port accepts and that keeps the class apart, all flows whose longest frames the port takes into the class, and as
+/// many of their frames as come while its clock goes.
+pub fn claims()
+    ensures windows { WindowClaim }
+    ensures any_moments { CurveClaim }
+    ensures runs { LateRunsExist }
+{}
