@@ -1,5 +1,5 @@
 -- The lines of a schedule's bounds. Times are in picoseconds.
-use Rattle.std.specs.Prelude.{ℕ, ◌≡◌, ◌+◌, zero, suc, ◌||◌, true, false, List, [], ◌∷◌, ◌++◌, Option, Some, None, Result, Ok, Err, decimal, codes}
+use Rattle.std.specs.Prelude.{ℕ, ◌≡◌, ◌+◌, zero, suc, ◌||◌, Bool, true, false, List, [], ◌∷◌, ◌++◌, Option, Some, None, Result, Ok, Err, decimal, codes}
 use Rattle.std.specs.List.{concat}
 use Rattle.answer_text.specs.Names.{dropped_name}
 use Rattle.abstract_port.specs.AbstractPort.{plan_asked}
@@ -12,7 +12,7 @@ use Rattle.schedule_check.specs.Apart.{apart_line, class_count, classes_apart}
 use Rattle.schedule_check.specs.Refusals.{map_after}
 use Rattle.delay_bounds.specs.declared.Bound.{Bound}
 use Rattle.stream_bounds.specs.Classes.{class_of, refusal_of}
-use Rattle.stream_bounds.specs.Verdicts.{AreClassAnswers, ClassAnswer, answer_at, left_after, met_by, needs_of, next_delay, plus}
+use Rattle.stream_bounds.specs.Verdicts.{AreClassAnswers, ClassAnswer, answer_at, left_after, met_by, needs_of, next_delay, plus, slack_of}
 use Rattle.stream_bounds.specs.declared.faults.Answered.{Answered}
 use Rattle.stream_bounds.specs.declared.faults.Finding.{Finding}
 use Rattle.stream_bounds.specs.declared.faults.Finding.TheVariants as Findings
@@ -135,11 +135,30 @@ bound_head id = concat (codes "bound " ∷ decimal id ∷ [])
 abbrev pub bound_line : Needs → Stream → Delay → List ℕ
 bound_line needs x delay = bound_head x.first_id ++ (delay_text needs delay ++ deadline_end needs delay x.deadline)
 
+-- the jitter that a stream may have with its deadline still met, if it is with any
+abbrev pub slack_end : Option ℕ → List ℕ
+slack_end None = codes " none\n"
+slack_end (Some jitter) = concat (codes " jitter " ∷ decimal jitter ∷ codes "\n" ∷ [])
+
+-- the beginning of its line
+abbrev pub slack_head : ℕ → List ℕ
+slack_head id = concat (codes "slack " ∷ decimal id ∷ [])
+
+-- the line of it, where it is asked, of a stream with a deadline
+abbrev pub slack_line : Bool → ℕ → Option ℕ → Option ℕ → List ℕ
+slack_line false id deadline slack = []
+slack_line true id None slack = []
+slack_line true id (Some deadline) slack = slack_head id ++ slack_end slack
+
+-- both lines of a stream
+abbrev pub stream_text : Bool → Needs → Stream → Delay → Option ℕ → List ℕ
+stream_text asked needs x delay slack = bound_line needs x delay ++ slack_line asked x.first_id x.deadline slack
+
 -- the lines of streams, by the answers that are still to be told
 unfoldable pub bound_lines : BoundsSettings → Change → List ClassAnswer → List Stream → List ℕ
 bound_lines s c answers [] = []
 bound_lines s c answers (x ∷ xs) =
-    bound_line (needs_of s.port.rate x) x (next_delay s c answers x)
+    stream_text s.slack (needs_of s.port.rate x) x (next_delay s c answers x) (slack_of answers (class_of s c x))
     ++ bound_lines s c (left_after answers (class_of s c x)) xs
 
 -- 3. Commands

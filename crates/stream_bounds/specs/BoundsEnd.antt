@@ -32,23 +32,24 @@ abbrev pub frames_where : Option ℕ → Option ℕ
 frames_where None = None
 frames_where (Some n) = if nat_le 1 n then Some n else None
 
--- the settings of a port, the map that it has already, a number of frames, and whether the run is strict
-abbrev pub with_frames : Setup → Option ClassMap → Option ℕ → Bool → Result BoundsSettings BoundsValue
-with_frames port map (Some frames) strict = Ok (record { port = port; map = map; frames = frames; strict = strict })
-with_frames port map None strict = Err Values.Frames
+-- the settings of a port, the map that it has already, a number of frames, whether the run is strict, and whether slack is told
+abbrev pub with_frames : Setup → Option ClassMap → Option ℕ → (strict slack : Bool) → Result BoundsSettings BoundsValue
+with_frames port map (Some frames) strict slack = Ok (record { port = port; map = map; frames = frames; strict = strict; slack = slack })
+with_frames port map None strict slack = Err Values.Frames
 
-abbrev pub with_map : Setup → Option (Option ClassMap) → Option ℕ → Bool → Result BoundsSettings BoundsValue
-with_map port (Some map) frames strict = with_frames port map frames strict
-with_map port None frames strict = Err (Values.Port BadValues.Map)
+abbrev pub with_map : Setup → Option (Option ClassMap) → Option ℕ → (strict slack : Bool) → Result BoundsSettings BoundsValue
+with_map port (Some map) frames strict slack = with_frames port map frames strict slack
+with_map port None frames strict slack = Err (Values.Port BadValues.Map)
 
-abbrev pub with_port : Result Setup BadValue → Option (Option ClassMap) → Option ℕ → Bool → Result BoundsSettings BoundsValue
-with_port (Ok port) map frames strict = with_map port map frames strict
-with_port (Err value) map frames strict = Err (Values.Port value)
+abbrev pub with_port : Result Setup BadValue → Option (Option ClassMap) → Option ℕ → (strict slack : Bool) → Result BoundsSettings BoundsValue
+with_port (Ok port) map frames strict slack = with_map port map frames strict slack
+with_port (Err value) map frames strict slack = Err (Values.Port value)
 
 -- the settings of the values that are given: those of a port, no map, and a million frames where no number is given
-abbrev pub bounds_given : GivenWords → (map frames : Option (List ℕ)) → Bool → Result BoundsSettings BoundsValue
-bounds_given words map frames strict =
-    with_port (settings_given greatest_moment words) (where_given map_in map) (frames_where (number_in 10 MAX_FRAMES (unwrap_or frames (codes "1000000")))) strict
+abbrev pub bounds_given : GivenWords → (map frames : Option (List ℕ)) → (strict slack : Bool) → Result BoundsSettings BoundsValue
+bounds_given words map frames strict slack =
+    with_port (settings_given greatest_moment words) (where_given map_in map) (frames_where (number_in 10 MAX_FRAMES (unwrap_or frames (codes "1000000"))))
+    strict slack
 
 -- the text of a bad value
 abbrev pub bounds_value_text : BoundsValue → List ℕ

@@ -11,7 +11,7 @@
 --
 -- For any other traffic (a frame with jitter, or of several lengths) it is what `IsWindowAnswer` says: for each stream the least time, and the least number
 -- of frames, that bound the late run, in which each frame comes as late as it may. What they are worth is the law `any_traffic::periodic_windows`.
-use Rattle.std.specs.Prelude.{ℕ, ◌+◌, ◌-◌, ◌^◌, ◌==◌, ◌≡◌, ◌<◌, length, map, min, nat_le, is_some, ◌&&◌, Bool, true, false, List, [], ◌∷◌, drop, slice_get, slice_set, slice_index_or, Option, Some, None, unwrap_or, Result, Ok, Err, if◌then◌else◌}
+use Rattle.std.specs.Prelude.{ℕ, ◌+◌, ◌-◌, ◌^◌, ◌%◌, ◌⊎◌, ◌==◌, ◌≡◌, ◌<◌, length, map, min, nat_le, is_some, ◌&&◌, Bool, true, false, List, [], ◌∷◌, drop, slice_get, slice_set, slice_index_or, Option, Some, None, unwrap_or, Result, Ok, Err, if◌then◌else◌}
 use Rattle.gate_list.specs.Gate.{keeps_apart}
 use Rattle.abstract_port.specs.AbstractPort.{plan_asked}
 use Rattle.abstract_port.specs.declared.Change.{Change}
@@ -38,6 +38,7 @@ use Rattle.window_bounds.specs.declared.JitteredFlow.{JitteredFlow}
 use Rattle.window_bounds.specs.declared.Unbound.{Unbound as WindowUnbound}
 use Rattle.window_bounds.specs.declared.Unbound.TheVariants as WindowFaults
 use Rattle.gate_list.specs.Gate.{Plan}
+use Rattle.wire_time.specs.Moment.{greatest_moment}
 use Rattle.wire_time.specs.Wire.{occupancy_of}
 use Rattle.stream_bounds.specs.Classes.{are_any, are_equal, class_of, dropped_of, flow_of, has_any, has_inexact, jittered_of, most_sdu, streams_of, talker_of}
 use Rattle.stream_bounds.specs.declared.settings.BoundsSettings.{BoundsSettings}
@@ -80,23 +81,29 @@ verdict_of ids (Err Unbounds.Long) = Verdicts.Long
 verdict_of ids (Err Unbounds.Late) = Verdicts.Late
 verdict_of ids (Err Unbounds.Memory) = Verdicts.Late
 
--- the verdict about a class, and the bounds of its streams that are still to be told
+-- The verdict about a class, and the bounds of its streams that are still to be told. Where it is asked, each stream also has the greatest jitter with
+-- which it makes its deadline, if there is one.
 pub record ClassAnswer : Type 0 where
   pub verdict : Verdict
   pub left : List Bound
+  pub slacks : List (Option ℕ)
 
 -- the bounds of an answer
 abbrev pub bounds_of : Result Answer Unbound → List Bound
 bounds_of (Ok a) = a.bounds
 bounds_of (Err why) = []
 
+-- a class without bounds
+abbrev pub unbounded : Verdict → ClassAnswer
+unbounded verdict = record { verdict = verdict; left = []; slacks = [] }
+
 -- a class without streams
 abbrev pub idle : ClassAnswer
-idle = record { verdict = Verdicts.Idle; left = [] }
+idle = unbounded Verdicts.Idle
 
 -- the answer about a class that is kept apart, with these streams
 abbrev pub apart_answer : List Stream → Result Answer Unbound → ClassAnswer
-apart_answer streams told = record { verdict = verdict_of (map (λ x. x.first_id) streams) told; left = bounds_of told }
+apart_answer streams told = record { verdict = verdict_of (map (λ x. x.first_id) streams) told; left = bounds_of told; slacks = [] }
 
 -- by the walk over its flows, where its traffic is exact
 abbrev pub exact_answer : BoundsSettings → Plan → List Stream → ℕ → ClassAnswer
@@ -108,8 +115,22 @@ abbrev pub answer_at : List ClassAnswer → ℕ → ClassAnswer
 answer_at answers class = slice_index_or answers class idle
 
 -- the bounds of the next stream of a class are told
+abbrev pub bound_told : ClassAnswer → ClassAnswer
+bound_told a = record { verdict = a.verdict; left = drop 1 a.left; slacks = a.slacks }
+
 abbrev pub one_told : List ClassAnswer → ℕ → List ClassAnswer
-one_told answers class = slice_set answers class (record { verdict = (answer_at answers class).verdict; left = drop 1 (answer_at answers class).left })
+one_told answers class = slice_set answers class (bound_told (answer_at answers class))
+
+-- the jitter that it may have
+abbrev pub slack_at : List ClassAnswer → ℕ → Option ℕ
+slack_at answers class = unwrap_or (slice_get (answer_at answers class).slacks 0) None
+
+-- it is told
+abbrev pub jitter_told : ClassAnswer → ClassAnswer
+jitter_told a = record { verdict = a.verdict; left = a.left; slacks = drop 1 a.slacks }
+
+abbrev pub slack_told : List ClassAnswer → ℕ → List ClassAnswer
+slack_told answers class = slice_set answers class (jitter_told (answer_at answers class))
 
 -- 2. A class some of whose frames may come at any moment, by how far apart they come
 
@@ -123,12 +144,8 @@ range_of wait x = record { least = 0; greatest = plus wait (late_by x) }
 
 -- Bounds, where there is room for as many frames as may wait; and whether a frame of each stream may take so long.
 abbrev pub within_room : Bool → ℕ → Bool → List Bound → ClassAnswer
-within_room true most reached bounds = record { verdict = Verdicts.Within most reached; left = bounds }
-within_room false most reached bounds = record { verdict = Verdicts.Crowded most; left = [] }
-
--- a class without bounds
-abbrev pub unbounded : Verdict → ClassAnswer
-unbounded verdict = record { verdict = verdict; left = [] }
+within_room true most reached bounds = record { verdict = Verdicts.Within most reached; left = bounds; slacks = [] }
+within_room false most reached bounds = unbounded (Verdicts.Crowded most)
 
 -- the answer about a class with these streams, with room for so many frames
 abbrev pub burst_answer : ℕ → List Stream → Result BurstBounds BurstUnbound → ClassAnswer
@@ -185,7 +202,7 @@ pub record IsWindowAnswer (s : BoundsSettings) (c : Change) (streams : List Stre
   pub are : AreWindows (plan_asked c) class (map (jittered_of s.port.rate (most_sdu s c class)) streams) s.frames told
   pub answered : IsAnswerWith s c streams class answer told
 
--- 4. All classes
+-- 4. A class
 
 -- the answer about a class that is kept apart, with these streams, by whether any frame may come at any moment, and whether any stream isn't exact
 abbrev pub IsApartAnswer : (anywhen inexact : Bool) → BoundsSettings → Change → List Stream → ℕ → ClassAnswer → Type 0
@@ -199,18 +216,9 @@ IsAnswerBy apart s c [] class answer = answer ≡ idle
 IsAnswerBy false s c (x ∷ streams) class answer = answer ≡ unbounded Verdicts.Shared
 IsAnswerBy true s c (x ∷ streams) class answer = IsApartAnswer (has_any (x ∷ streams)) (has_inexact (x ∷ streams)) s c (x ∷ streams) class answer
 
--- the answer about a class, by its streams in a table
-abbrev pub IsClassAnswer : BoundsSettings → Change → List Stream → ℕ → ClassAnswer → Type 0
-IsClassAnswer s c streams class answer = IsAnswerBy (keeps_apart (plan_asked c).entries class) s c (streams_of s c class streams) class answer
-
--- the answers about classes from one on
-abbrev pub AreAnswersFrom : BoundsSettings → Change → List Stream → ℕ → List ClassAnswer → Type 0
-AreAnswersFrom s c streams class [] = Unit {0}
-AreAnswersFrom s c streams class (answer ∷ answers) = IsClassAnswer s c streams class answer × AreAnswersFrom s c streams (class + 1) answers
-
--- the answers about all eight classes
-abbrev pub AreClassAnswers : BoundsSettings → Change → List Stream → List ClassAnswer → Type 0
-AreClassAnswers s c streams answers = (length answers ≡ 8) × AreAnswersFrom s c streams 0 answers
+-- the answer about a class with these streams, by its schedule
+abbrev pub IsOwnAnswer : BoundsSettings → Change → List Stream → ℕ → ClassAnswer → Type 0
+IsOwnAnswer s c streams class answer = IsAnswerBy (keeps_apart (plan_asked c).entries class) s c streams class answer
 
 -- 5. A stream
 
@@ -249,9 +257,14 @@ unless_dropped (Some why) delay = Delays.Lost why
 abbrev pub next_delay : BoundsSettings → Change → List ClassAnswer → Stream → Delay
 next_delay s c answers x = unless_dropped (dropped_of s c x) (delay_of answers (class_of s c x))
 
+-- the jitter that it may have: where its frames are dropped, none
+abbrev pub slack_of : List ClassAnswer → Result ℕ Dropped → Option ℕ
+slack_of answers (Ok class) = slack_at answers class
+slack_of answers (Err why) = None
+
 -- the answers that are left behind it
 abbrev pub left_after : List ClassAnswer → Result ℕ Dropped → List ClassAnswer
-left_after answers (Ok class) = one_told answers class
+left_after answers (Ok class) = one_told (slack_told answers class) class
 left_after answers (Err why) = answers
 
 -- Where a frame has left by a deadline at the latest, it is met; and else it is missed, if a frame does take so long.
@@ -266,3 +279,72 @@ met_by needs (Delays.Unbounded class) deadline = Mets.Missed
 met_by needs (Delays.Unsettled class) deadline = Mets.Unknown
 met_by needs (Delays.Unknown class) deadline = Mets.Unknown
 met_by needs (Delays.Lost why) deadline = Mets.Missed
+
+-- 6. The jitter that a stream may have
+
+-- the stream with another jitter
+abbrev pub jittered : Stream → ℕ → Stream
+jittered x j = record x { jitter = j }
+
+-- what is told of the stream at a place of its class, by the class's answer
+abbrev pub delay_at : BoundsSettings → Change → Stream → ℕ → ClassAnswer → ℕ → Delay
+delay_at s c x class a place =
+    unless_dropped (dropped_of s c x) (delay_by class a.verdict (unwrap_or (slice_get a.left place) (record { least = 0; greatest = 0 })))
+
+abbrev pub is_met : Met → Bool
+is_met Mets.Met = true
+is_met _ = false
+
+-- The stream at a place of its class has this jitter, and all else is as it is: whether its deadline is met by a right answer.
+pub record IsMetWith (s : BoundsSettings) (c : Change) (streams : List Stream) (class place : ℕ) (x : Stream) (deadline jitter : ℕ) (met : Bool)
+    : Type 0 where
+  pub answer : ClassAnswer
+  pub right : IsOwnAnswer s c (slice_set streams place (jittered x jitter)) class answer
+  pub so : met ≡ is_met (met_by (needs_of s.port.rate x) (delay_at s c x class answer place) deadline)
+
+-- it isn't met, or the jitter is no moment
+abbrev pub IsOver : BoundsSettings → Change → List Stream → (class place : ℕ) → Stream → (deadline jitter : ℕ) → Type 0
+IsOver s c streams class place x deadline jitter = IsMetWith s c streams class place x deadline jitter false ⊎ (greatest_moment < jitter)
+
+-- A jitter in whole nanoseconds with which the deadline is met, and with one nanosecond more it isn't; or it isn't with none.
+abbrev pub IsSlack : BoundsSettings → Change → List Stream → (class place : ℕ) → Stream → (deadline : ℕ) → Option ℕ → Type 0
+IsSlack s c streams class place x deadline None = IsMetWith s c streams class place x deadline 0 false
+IsSlack s c streams class place x deadline (Some jitter) =
+    IsMetWith s c streams class place x deadline jitter true × IsOver s c streams class place x deadline (jitter + 1000) × (jitter % 1000 ≡ 0)
+
+-- of a stream without a deadline none is told
+abbrev pub IsSlackOf : BoundsSettings → Change → List Stream → (class place : ℕ) → Stream → Option ℕ → Option ℕ → Type 0
+IsSlackOf s c streams class place x None slack = slack ≡ None
+IsSlackOf s c streams class place x (Some deadline) slack = IsSlack s c streams class place x deadline slack
+
+-- each stream of a class has the one at its place
+pub record AreSlacks (s : BoundsSettings) (c : Change) (streams : List Stream) (class : ℕ) (slacks : List (Option ℕ)) : Type 0 where
+  pub count : length slacks ≡ length streams
+  pub each : (place : ℕ) (x : Stream) (slack : Option ℕ) → slice_get streams place ≡ Some x → slice_get slacks place ≡ Some slack
+      → IsSlackOf s c streams class place x x.deadline slack
+
+-- where they are asked
+abbrev pub AreAskedSlacks : Bool → BoundsSettings → Change → List Stream → ℕ → List (Option ℕ) → Type 0
+AreAskedSlacks false s c streams class slacks = slacks ≡ []
+AreAskedSlacks true s c streams class slacks = AreSlacks s c streams class slacks
+
+-- 7. All classes
+
+abbrev pub with_slacks : ClassAnswer → List (Option ℕ) → ClassAnswer
+with_slacks a slacks = record { verdict = a.verdict; left = a.left; slacks = slacks }
+
+-- the answer about a class, by its streams in a table
+pub record IsClassAnswer (s : BoundsSettings) (c : Change) (streams : List Stream) (class : ℕ) (answer : ClassAnswer) : Type 0 where
+  pub own : ClassAnswer
+  pub right : IsOwnAnswer s c (streams_of s c class streams) class own
+  pub slacks : AreAskedSlacks s.slack s c (streams_of s c class streams) class answer.slacks
+  pub answered : answer ≡ with_slacks own answer.slacks
+
+-- the answers about classes from one on
+abbrev pub AreAnswersFrom : BoundsSettings → Change → List Stream → ℕ → List ClassAnswer → Type 0
+AreAnswersFrom s c streams class [] = Unit {0}
+AreAnswersFrom s c streams class (answer ∷ answers) = IsClassAnswer s c streams class answer × AreAnswersFrom s c streams (class + 1) answers
+
+-- the answers about all eight classes
+abbrev pub AreClassAnswers : BoundsSettings → Change → List Stream → List ClassAnswer → Type 0
+AreClassAnswers s c streams answers = (length answers ≡ 8) × AreAnswersFrom s c streams 0 answers

@@ -1,308 +1,25 @@
 //! The answers about all classes.
 
-ghost use Rattle.std.specs.Prelude.{◌≡◌, ◌≢◌, ◌<◌, All, Err, Ok, IfErr, IfOk, Result, drop, length, nat_le, slice_get, unwrap_or};
+ghost use Rattle.std.specs.Prelude.{◌≡◌, ◌<◌, All, IfErr, IfOk, None, slice_get, unwrap_or};
 ghost use Rattle.abstract_port.specs.AbstractPort.{plan_asked};
 ghost use Rattle.job.specs.declared.fault.Fault.TheVariants as Faults;
 ghost use Rattle.wire_time.specs.declared.TheConstants.{CLASSES};
-ghost use Rattle.burst_bounds.specs.declared.Unbound.TheVariants as BurstFaults;
-ghost use Rattle.delay_bounds.specs.Bounded.{Answer};
-ghost use Rattle.window_bounds.specs.declared.Unbound.TheVariants as WindowFaults;
-ghost use Rattle.stream_bounds.specs.Classes.{IsPeriodic, has_any, has_inexact};
-ghost use Rattle.stream_bounds.specs.TableRead.{IsAnswered};
-ghost use Rattle.stream_bounds.specs.Verdicts.{AreClassAnswers, IsApartAnswer, IsBurstAnswer, IsClassAnswer, IsAnswerWith, IsWindowAnswer, answer_at, apart_answer, burst_answer, delay_of, exact_answer, left_after, one_told, unbounded, windows_of, within_room};
+ghost use Rattle.stream_bounds.specs.Classes.{IsPeriodic};
+ghost use Rattle.stream_bounds.specs.Verdicts.{AreClassAnswers, IsClassAnswer, answer_at, delay_of, left_after, one_told, slack_at, slack_of, slack_told};
 
-use crate::classes::{
-    are_any, are_equal, flows_of, has_any, has_inexact, ids_of, jittered_flows_of, most_sdu,
-    ranges_of, streams_of, talkers_of,
-};
+use crate::class_answer::{ClassAnswer, own_answer};
+use crate::classes::streams_of;
 use crate::faults::BoundsFault;
 use crate::settings::BoundsSettings;
-use crate::verdicts::{Delay, Verdict, delay_by, verdict_of};
+use crate::slack::slacks_of;
+use crate::verdicts::{Delay, Verdict, delay_by};
 use abstract_port::{Change, Dropped};
-use burst_bounds::{Bounds as BurstBounds, Unbound as BurstUnbound, burst_bounds};
-use delay_bounds::{Bound, Bounded, Unbound, bound_flows};
+use delay_bounds::Bound;
 use gate_list::Schedule;
 use std::alloc::Global;
 use std::marker::Model;
 use traffic::Stream;
-use window_bounds::{Bounded as Windows, Unbound as WindowUnbound, window_bounds};
 use wire_time::CLASSES;
-
-/// The answer about a class: the verdict, the bounds of its streams, and how many of them are told.
-#[derive(Drop)]
-pub struct ClassAnswer {
-    verdict: Verdict,
-    bounds: Vec<Bound, Global>,
-    told: usize,
-}
-
-/// A contract sees the verdict, and the bounds that are still to be told.
-impl Model for ClassAnswer {
-    ghost use Rattle.std.specs.Prelude.{drop};
-    ghost use Rattle.stream_bounds.specs.Verdicts.{ClassAnswer};
-
-    ghost Value = { ClassAnswer };
-
-    ghost view = { λ a. record { verdict = a.verdict; left = drop a.told a.bounds.items } };
-}
-
-impl ClassAnswer {
-    /// A verdict, with bounds of which none is told.
-    fn new(verdict: Verdict, bounds: Vec<Bound, Global>) -> ClassAnswer
-        ensures { result ≡ record { verdict = verdict; left = bounds.items } }
-    {
-        ClassAnswer {
-            verdict,
-            bounds,
-            told: 0,
-        }
-    }
-
-    /// The verdict.
-    fn verdict(&self) -> Verdict
-        ensures { result ≡ self.now.verdict }
-    {
-        self.verdict
-    }
-
-    /// The next bounds that are still to be told; they then are.
-    fn next(&mut self) -> Option<Bound>
-        ensures first { result ≡ slice_get self.old.left 0 }
-        ensures left { self.new ≡ record { verdict = self.old.verdict; left = drop 1 self.old.left } }
-    {
-        let bound = self.bounds.get(self.told).copied()?;
-        self.told += 1;
-        Some(bound)
-    }
-}
-
-/// The answer about a class with these streams, whose traffic is exact, in a schedule that keeps it apart.
-fn apart_answer(
-    alloc: Global,
-    streams: &[Stream],
-    answer: Result<Bounded<Global>, Unbound>,
-) -> Result<ClassAnswer, BoundsFault>
-    ensures answer { (told : Result Answer Unbound) → IsAnswered answer told →
-        IfOk result (λ a. a ≡ apart_answer streams.now told) }
-    ensures memory { IfErr result (λ fault. fault ≡ Faults.Memory) }
-{
-    match answer {
-        Ok(bounded) => {
-            let verdict = Verdict::Bounded {
-                most: bounded.most,
-                frames: bounded.frames,
-                every: bounded.every,
-            };
-            Ok(ClassAnswer::new(verdict, bounded.bounds))
-        }
-        Err(Unbound::Memory) => Err(BoundsFault::Memory),
-        Err(why) => {
-            let ids = ids_of(alloc, streams)?;
-            let verdict = verdict_of(ids.as_slice(), why);
-            Ok(ClassAnswer::new(verdict, Vec::new(alloc)))
-        }
-    }
-}
-
-/// The answer about a class with these streams, whose traffic is exact, in a schedule that keeps it apart.
-fn exact_answer(
-    alloc: Global,
-    settings: &BoundsSettings,
-    schedule: &Schedule,
-    streams: &[Stream],
-    class: u8,
-) -> Result<ClassAnswer, BoundsFault>
-    requires class { class < CLASSES }
-    requires periodic { All IsPeriodic streams.now }
-    requires some { 0 < length streams.now }
-    ensures answer { IfOk result (λ a. a ≡ exact_answer settings.now schedule.now streams.now class) }
-    ensures memory { IfErr result (λ fault. fault ≡ Faults.Memory) }
-{
-    let flows = flows_of(alloc, settings.port.rate(), streams)?;
-    let _entries = schedule.len();
-    let answer = bound_flows(
-        &alloc,
-        schedule,
-        class,
-        settings.port.room(),
-        flows.as_slice(),
-        settings.frames,
-    );
-    apart_answer(alloc, streams, answer)
-}
-
-/// Bounds, as far as there is room for the frames that may wait; and whether a frame of each stream may take so long.
-fn within_room(
-    alloc: Global,
-    room: u32,
-    most: u64,
-    reached: bool,
-    bounds: Vec<Bound, Global>,
-) -> ClassAnswer
-    ensures { result ≡ within_room (nat_le most room) most reached bounds.items }
-{
-    if most <= u64::from(room) {
-        ClassAnswer::new(Verdict::Within { most, reached }, bounds)
-    } else {
-        ClassAnswer::new(Verdict::Crowded { most }, Vec::new(alloc))
-    }
-}
-
-/// The bounds of a class with these streams, whose frames wait for so long at most.
-fn burst_within(
-    alloc: Global,
-    room: u32,
-    streams: &[Stream],
-    bounds: BurstBounds,
-) -> Result<ClassAnswer, BoundsFault>
-    ensures answer { IfOk result (λ a. a ≡ burst_answer room streams.now (Ok bounds)) }
-    ensures memory { IfErr result (λ fault. fault ≡ Faults.Memory) }
-{
-    let ranges = ranges_of(alloc, bounds.wait, streams)?;
-    let reached = are_equal(streams) && are_any(streams);
-    Ok(within_room(alloc, room, bounds.most as u64, reached, ranges))
-}
-
-/// The answer about a class with these streams, by its least bounds.
-fn burst_answer(
-    alloc: Global,
-    room: u32,
-    streams: &[Stream],
-    told: Result<BurstBounds, BurstUnbound>,
-) -> Result<ClassAnswer, BoundsFault>
-    ensures answer { IfOk result (λ a. a ≡ burst_answer room streams.now told) }
-    ensures known { IfOk result (λ a. told ≢ Err BurstFaults.Memory) }
-    ensures memory { IfErr result (λ fault. fault ≡ Faults.Memory) }
-{
-    let why = match told {
-        Ok(bounds) => return burst_within(alloc, room, streams, bounds),
-        Err(why) => why,
-    };
-    let verdict = match why {
-        BurstUnbound::Overloaded => Verdict::Overloaded { alone: false },
-        BurstUnbound::Stuck => Verdict::Unfit,
-        BurstUnbound::Long => Verdict::Long,
-        BurstUnbound::Memory => return Err(BoundsFault::Memory),
-    };
-    Ok(ClassAnswer::new(verdict, Vec::new(alloc)))
-}
-
-/// The answer about a class with these streams, some of whose frames may come at any moment, in a schedule that keeps it
-/// apart.
-fn any_answer(
-    alloc: Global,
-    settings: &BoundsSettings,
-    change: &Change,
-    schedule: &Schedule,
-    streams: &[Stream],
-    class: u8,
-) -> Result<ClassAnswer, BoundsFault>
-    requires class { class < CLASSES }
-    requires plan { schedule.now ≡ plan_asked change.now }
-    requires periodic { All IsPeriodic streams.now }
-    requires some { 0 < length streams.now }
-    ensures answer { IfOk result (λ a. IsBurstAnswer settings.now change.now streams.now class a) }
-    ensures memory { IfErr result (λ fault. fault ≡ Faults.Memory) }
-{
-    let sdu = most_sdu(settings, change, class);
-    let talkers = talkers_of(alloc, settings.port.rate(), sdu, streams)?;
-    let limit = settings.frames.min(u64::from(u32::MAX)) as u32;
-    let told = burst_bounds(&alloc, schedule, class, talkers.as_slice(), limit);
-    burst_answer(alloc, settings.port.room(), streams, told)
-}
-
-/// A class without bounds.
-fn unbounded(alloc: Global, verdict: Verdict) -> ClassAnswer
-    ensures { result ≡ unbounded verdict }
-{
-    ClassAnswer::new(verdict, Vec::new(alloc))
-}
-
-/// The answer about a class with these streams, by the least bounds of their windows. Where too few frames are looked
-/// at, it is that by how far apart they come.
-fn answer_with(
-    alloc: Global,
-    settings: &BoundsSettings,
-    change: &Change,
-    schedule: &Schedule,
-    streams: &[Stream],
-    class: u8,
-    told: Result<Windows<Global>, WindowUnbound>,
-) -> Result<ClassAnswer, BoundsFault>
-    requires class { class < CLASSES }
-    requires plan { schedule.now ≡ plan_asked change.now }
-    requires periodic { All IsPeriodic streams.now }
-    requires some { 0 < length streams.now }
-    ensures answer { IfOk result (λ a.
-        IsAnswerWith settings.now change.now streams.now class a (windows_of told)) }
-    ensures known { IfOk result (λ a. windows_of told ≢ Err WindowFaults.Memory) }
-    ensures memory { IfErr result (λ fault. fault ≡ Faults.Memory) }
-{
-    match told {
-        Ok(told) => {
-            let reached = are_equal(streams);
-            let room = settings.port.room();
-            Ok(within_room(alloc, room, told.most, reached, told.bounds))
-        }
-        Err(WindowUnbound::Overloaded) => Ok(unbounded(
-            alloc,
-            Verdict::Overloaded { alone: false },
-        )),
-        Err(WindowUnbound::Stuck) => Ok(unbounded(alloc, Verdict::Unfit)),
-        Err(WindowUnbound::Long) => any_answer(alloc, settings, change, schedule, streams, class),
-        Err(WindowUnbound::Late) => any_answer(alloc, settings, change, schedule, streams, class),
-        Err(WindowUnbound::Memory) => Err(BoundsFault::Memory),
-    }
-}
-
-/// The answer about a class with these streams, each of whose frames comes in a window of its own, in a schedule that
-/// keeps it apart.
-fn window_answer(
-    alloc: Global,
-    settings: &BoundsSettings,
-    change: &Change,
-    schedule: &Schedule,
-    streams: &[Stream],
-    class: u8,
-) -> Result<ClassAnswer, BoundsFault>
-    requires class { class < CLASSES }
-    requires plan { schedule.now ≡ plan_asked change.now }
-    requires periodic { All IsPeriodic streams.now }
-    requires some { 0 < length streams.now }
-    ensures answer { IfOk result (λ a. IsWindowAnswer settings.now change.now streams.now class a) }
-    ensures memory { IfErr result (λ fault. fault ≡ Faults.Memory) }
-{
-    let sdu = most_sdu(settings, change, class);
-    let flows = jittered_flows_of(alloc, settings.port.rate(), sdu, streams)?;
-    let told = window_bounds(&alloc, schedule, class, flows.as_slice(), settings.frames);
-    answer_with(alloc, settings, change, schedule, streams, class, told)
-}
-
-/// The answer about a class with these streams, in a schedule that keeps it apart.
-fn kept_answer(
-    alloc: Global,
-    settings: &BoundsSettings,
-    change: &Change,
-    schedule: &Schedule,
-    streams: &[Stream],
-    class: u8,
-) -> Result<ClassAnswer, BoundsFault>
-    requires class { class < CLASSES }
-    requires plan { schedule.now ≡ plan_asked change.now }
-    requires periodic { All IsPeriodic streams.now }
-    requires some { 0 < length streams.now }
-    ensures answer { IfOk result (λ a.
-        IsApartAnswer (has_any streams.now) (has_inexact streams.now) settings.now change.now streams.now class a) }
-    ensures memory { IfErr result (λ fault. fault ≡ Faults.Memory) }
-{
-    if has_any(streams) {
-        any_answer(alloc, settings, change, schedule, streams, class)
-    } else if has_inexact(streams) {
-        window_answer(alloc, settings, change, schedule, streams, class)
-    } else {
-        exact_answer(alloc, settings, schedule, streams, class)
-    }
-}
 
 /// The answer about a class.
 fn class_answer(
@@ -321,13 +38,9 @@ fn class_answer(
 {
     let own = streams_of(alloc, settings, change, streams, class)?;
     let own = own.as_slice();
-    if own.len() == 0 {
-        return Ok(ClassAnswer::new(Verdict::Idle, Vec::new(alloc)));
-    }
-    if !schedule.keeps_apart(class) {
-        return Ok(ClassAnswer::new(Verdict::Shared, Vec::new(alloc)));
-    }
-    kept_answer(alloc, settings, change, schedule, own, class)
+    let answer = own_answer(alloc, settings, change, schedule, own, class)?;
+    let slacks = slacks_of(alloc, settings, change, schedule, own, class)?;
+    Ok(answer.with_slacks(slacks))
 }
 
 /// The answers about all classes.
@@ -388,6 +101,24 @@ fn next_of(classes: &mut [ClassAnswer; CLASSES], class: u8) -> Option<Bound>
     classes[class as usize].next()
 }
 
+/// The jitter that the next stream of a class may have; it is then told.
+fn slack_of_next(classes: &mut [ClassAnswer; CLASSES], class: u8) -> Option<u128>
+    requires { class < CLASSES }
+    ensures first { result ≡ slack_at classes.old class }
+    ensures left { classes.new ≡ slack_told classes.old class }
+{
+    classes[class as usize].next_slack()
+}
+
+/// What is told of a stream: its delay, and the jitter that it may have, where that is asked.
+#[derive(Clone, Copy)]
+pub struct Told {
+    /// How long its frames take.
+    pub delay: Delay,
+    /// The greatest jitter with which it makes its deadline, if it does with any.
+    pub slack: Option<u128>,
+}
+
 impl Answers {
     /// The answers about the streams of a table, in the schedule of a change.
     pub fn new(
@@ -414,23 +145,31 @@ impl Answers {
         verdict_at(&self.classes, class)
     }
 
-    /// The delay of the next stream, by its class.
-    pub fn next_delay(&mut self, class: Result<u8, Dropped>) -> Delay
+    /// What is told of the next stream, by its class.
+    pub fn next_told(&mut self, class: Result<u8, Dropped>) -> Told
         requires { IfOk class (λ class. class < CLASSES) }
-        ensures delay { result ≡ delay_of self.old class }
+        ensures delay { result.delay ≡ delay_of self.old class }
+        ensures slack { result.slack ≡ slack_of self.old class }
         ensures left { self.new ≡ left_after self.old class }
     {
         match class {
             Ok(class) => {
                 let verdict = verdict_at(&self.classes, class);
+                let slack = slack_of_next(&mut self.classes, class);
                 let bound = next_of(&mut self.classes, class);
                 let none = Bound {
                     least: 0,
                     greatest: 0,
                 };
-                delay_by(class, verdict, bound.unwrap_or(none))
+                Told {
+                    delay: delay_by(class, verdict, bound.unwrap_or(none)),
+                    slack,
+                }
             }
-            Err(why) => Delay::Lost(why),
+            Err(why) => Told {
+                delay: Delay::Lost(why),
+                slack: None,
+            },
         }
     }
 }

@@ -32,6 +32,8 @@ pub struct BoundsWords<'a> {
     pub frames: Option<&'a str>,
     /// Whether the run is strict.
     pub strict: bool,
+    /// Whether it is told which jitter the streams with deadlines may have.
+    pub slack: bool,
 }
 
 /// A number of frames that may be looked at.
@@ -48,7 +50,8 @@ fn read_frames(frames: &str) -> Option<u64>
 
 /// The settings of the values that are given, and of those that stand for the others. The first bad value is the fault.
 pub fn bounds_given(words: BoundsWords<'_>) -> Result<BoundsSettings, BoundsValue>
-    ensures { result ≡ bounds_given (words_of_values words.entry.port) (octets_of words.entry.map) (octets_of words.entry.frames) words.entry.strict }
+    ensures { result ≡ bounds_given (words_of_values words.entry.port) (octets_of words.entry.map)
+        (octets_of words.entry.frames) words.entry.strict words.entry.slack }
 {
     let port = match settings_given(words.port, MAX_MOMENT) {
         Ok(port) => port,
@@ -63,6 +66,7 @@ pub fn bounds_given(words: BoundsWords<'_>) -> Result<BoundsSettings, BoundsValu
             map,
             frames,
             strict: words.strict,
+            slack: words.slack,
         }),
         None => Err(BoundsValue::Frames),
     }

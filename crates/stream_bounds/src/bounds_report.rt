@@ -22,6 +22,7 @@ use crate::answers::Answers;
 use crate::busy::tell_busy;
 use crate::class_lines::{find_class, put_classes};
 use crate::faults::{Answered, BoundsFault, Finding};
+use crate::notes::tell_bases;
 use crate::settings::BoundsSettings;
 use crate::stream_lines::{first_of, put_streams};
 use abstract_port::{Change, Command, Refused};
@@ -73,8 +74,8 @@ fn put_answers<W: Write>(
     })
 }
 
-/// Answers about an accepted schedule, that of the line of this number. Who watches is told of classes that have no time
-/// for one frame more, where it wants hints.
+/// Answers about an accepted schedule, that of the line of this number. Who watches is told by what the bounds of each
+/// class are found, and of classes that have no time for one frame more, where it wants hints.
 fn put_schedule<W: Write, H: Watch>(
     alloc: Global,
     writer: &mut W,
@@ -93,6 +94,9 @@ fn put_schedule<W: Write, H: Watch>(
     match Answers::new(alloc, settings, change, schedule, streams) {
         Ok(mut answers) => {
             if watch.wants_hints() {
+                tell_bases(
+                    alloc, settings, change, schedule, streams, &answers, number, watch,
+                );
                 tell_busy(
                     alloc, settings, change, schedule, streams, &answers, number, watch,
                 );

@@ -24,6 +24,8 @@ pub struct BoundsSettings {
     pub frames: u64,
     /// Whether the run fails where a deadline is not known to be met, or a command is none or is refused.
     pub strict: bool,
+    /// Whether it is told which jitter the streams with deadlines may have.
+    pub slack: bool,
 }
 
 /// The first value that is bad.

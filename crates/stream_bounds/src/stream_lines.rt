@@ -1,12 +1,12 @@
 //! The lines of streams.
 
-ghost use Rattle.std.specs.Prelude.{◌≡◌, IfOk};
+ghost use Rattle.std.specs.Prelude.{◌≡◌, ◌++◌, IfOk};
 ghost use Rattle.octet_writer.specs.Writes.{Writes};
-ghost use Rattle.stream_bounds.specs.BoundLines.{bound_head, bound_line, bound_lines, deadline_end, delay_text, finding_in, first_of, lost, met_word, range_text, stream_finding, unmet};
+ghost use Rattle.stream_bounds.specs.BoundLines.{bound_head, bound_line, bound_lines, deadline_end, delay_text, finding_in, first_of, lost, met_word, range_text, slack_end, slack_head, slack_line, stream_finding, stream_text, unmet};
 ghost use Rattle.stream_bounds.specs.Classes.{class_of};
-ghost use Rattle.stream_bounds.specs.Verdicts.{left_after, needs_of, next_delay, unless_dropped};
+ghost use Rattle.stream_bounds.specs.Verdicts.{left_after, needs_of, next_delay, slack_of, unless_dropped};
 
-use crate::answers::Answers;
+use crate::answers::{Answers, Told};
 use crate::classes::{class_of, dropped_of};
 use crate::faults::Finding;
 use crate::settings::BoundsSettings;
@@ -19,7 +19,7 @@ use traffic::Stream;
 use wire_time::{Rate, occupancy};
 
 /// How long the frames of a stream occupy the wire.
-fn needs_of(rate: Rate, stream: &Stream) -> Needs
+pub fn needs_of(rate: Rate, stream: &Stream) -> Needs
     ensures { result ≡ needs_of rate stream.now }
 {
     Needs {
@@ -184,7 +184,7 @@ pub fn first_of(first: Option<Finding>, later: Option<Finding>) -> Option<Findin
 }
 
 /// What is told of a stream, of whose frames some may be dropped.
-fn unless_dropped(dropped: Option<Dropped>, delay: Delay) -> Delay
+pub fn unless_dropped(dropped: Option<Dropped>, delay: Delay) -> Delay
     ensures { result ≡ unless_dropped dropped delay }
 {
     match dropped {
@@ -193,18 +193,88 @@ fn unless_dropped(dropped: Option<Dropped>, delay: Delay) -> Delay
     }
 }
 
-/// The delay of the next stream of a table; it is told then.
-fn next_delay(
+/// What is told of the next stream of a table; it is told then.
+fn next_told(
     settings: &BoundsSettings,
     change: &Change,
     answers: &mut Answers,
     stream: &Stream,
-) -> Delay
-    ensures delay { result ≡ next_delay settings.now change.now answers.old stream.now }
+) -> Told
+    ensures delay { result.delay ≡ next_delay settings.now change.now answers.old stream.now }
+    ensures slack { result.slack ≡ slack_of answers.old (class_of settings.now change.now stream.now) }
     ensures left { answers.new ≡ left_after answers.old (class_of settings.now change.now stream.now) }
 {
-    let delay = answers.next_delay(class_of(settings, change, stream));
-    unless_dropped(dropped_of(settings, change, stream), delay)
+    let told = answers.next_told(class_of(settings, change, stream));
+    Told {
+        delay: unless_dropped(dropped_of(settings, change, stream), told.delay),
+        slack: told.slack,
+    }
+}
+
+/// Writes the jitter that a stream may have, to the end of the line.
+fn put_slack_end<W: Write>(writer: &mut W, slack: Option<u128>) -> Result<(), WriteFault>
+    ensures { Writes result (W.contents writer.old) (W.contents writer.new) (slack_end slack) }
+{
+    match slack {
+        None => put_parts(writer, &[Part::Text(b" none\n")]),
+        Some(jitter) => put_parts(
+            writer,
+            &[
+                Part::Text(b" jitter "),
+                Part::Number(jitter),
+                Part::Text(b"\n"),
+            ],
+        ),
+    }
+}
+
+/// Writes the beginning of the line of the jitter that a stream may have.
+fn put_slack_head<W: Write>(writer: &mut W, id: u64) -> Result<(), WriteFault>
+    ensures { Writes result (W.contents writer.old) (W.contents writer.new) (slack_head id) }
+{
+    put_parts(
+        writer,
+        &[Part::Text(b"slack "), Part::Number(u128::from(id))],
+    )
+}
+
+/// Writes the line of the jitter that a stream of this id may have.
+fn put_slack<W: Write>(writer: &mut W, id: u64, slack: Option<u128>) -> Result<(), WriteFault>
+    ensures { Writes result (W.contents writer.old) (W.contents writer.new) (slack_head id ++ slack_end slack) }
+{
+    put_slack_head(writer, id)?;
+    put_slack_end(writer, slack)
+}
+
+/// Writes that line where it is asked, of a stream with a deadline.
+fn put_asked_slack<W: Write>(
+    writer: &mut W,
+    asked: bool,
+    stream: &Stream,
+    slack: Option<u128>,
+) -> Result<(), WriteFault>
+    ensures { Writes result (W.contents writer.old) (W.contents writer.new)
+        (slack_line asked stream.now.first_id stream.now.deadline slack) }
+{
+    match stream.deadline {
+        Some(_) if asked => put_slack(writer, stream.first_id, slack),
+        _ => put_parts(writer, &[]),
+    }
+}
+
+/// Writes both lines of a stream.
+fn put_told<W: Write>(
+    writer: &mut W,
+    asked: bool,
+    needs: Needs,
+    stream: &Stream,
+    told: Told,
+) -> Result<(), WriteFault>
+    ensures { Writes result (W.contents writer.old) (W.contents writer.new)
+        (stream_text asked needs stream.now told.delay told.slack) }
+{
+    put_stream(writer, needs, stream, told.delay)?;
+    put_asked_slack(writer, asked, stream, told.slack)
 }
 
 /// Writes the lines of streams, and answers the first finding among them.
@@ -221,9 +291,9 @@ pub fn put_streams<W: Write>(
     let mut first = None;
     for stream in streams {
         let needs = needs_of(settings.port.rate(), stream);
-        let delay = next_delay(settings, change, answers, stream);
-        put_stream(writer, needs, stream, delay)?;
-        first = first_of(first, stream_finding(needs, stream, delay));
+        let told = next_told(settings, change, answers, stream);
+        put_told(writer, settings.slack, needs, stream, told)?;
+        first = first_of(first, stream_finding(needs, stream, told.delay));
     }
     Ok(first)
 }

@@ -2,7 +2,7 @@ use Rattle.std.proofs.Common.{◌≡◌, map, ◌∙◌}
 use Rattle.stream_bounds.specs.Classes.{most_sdu, talker_of}
 use Rattle.stream_bounds.specs.Verdicts.{burst_limit}
 use Rattle.stream_bounds.proofs.AnswerLaws.{if_any}
-use Rattle.stream_bounds.proofs.answers.any_answer.Goals as goal
+use Rattle.stream_bounds.proofs.class_answer.any_answer.Goals as goal
 
 pub returns-clause-answer : goal.returns-clause-answer
 returns-clause-answer c =

@@ -1,7 +1,7 @@
 use Rattle.std.proofs.Common.{◌≡◌, map, ◌∙◌}
 use Rattle.stream_bounds.specs.Classes.{jittered_of, most_sdu}
 use Rattle.stream_bounds.proofs.AnswerLaws.{if_windows}
-use Rattle.stream_bounds.proofs.answers.window_answer.Goals as goal
+use Rattle.stream_bounds.proofs.class_answer.window_answer.Goals as goal
 
 pub returns-clause-answer : goal.returns-clause-answer
 returns-clause-answer c =

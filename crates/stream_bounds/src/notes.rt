@@ -1,0 +1,184 @@
+//! By what the bounds of classes are found. No contract says so: it is a hint for who watches.
+
+ghost use Rattle.std.specs.Prelude.{◌≡◌, ◌<◌, All, IfSome, length};
+ghost use Rattle.abstract_port.specs.AbstractPort.{plan_asked};
+ghost use Rattle.stream_bounds.specs.Classes.{IsPeriodic};
+ghost use Rattle.wire_time.specs.declared.TheConstants.{CLASSES};
+
+use crate::answers::Answers;
+use crate::class_answer::own_answer;
+use crate::classes::{has_inexact, jittered_flows_of, most_sdu, streams_of};
+use crate::settings::BoundsSettings;
+use crate::stream_lines::needs_of;
+use crate::verdicts::{Verdict, plus};
+use abstract_port::Change;
+use gate_list::Schedule;
+use script::{Basis, Watch};
+use std::alloc::Global;
+use traffic::Stream;
+use window_bounds::{Unbound, window_bounds};
+use wire_time::CLASSES;
+
+/// The first id of the first stream whose offset isn't known.
+fn first_unknown(streams: &[Stream]) -> Option<u64> {
+    for stream in streams {
+        if stream.offset.is_none() {
+            return Some(stream.first_id);
+        }
+    }
+    None
+}
+
+/// The streams whose offsets are known. None: memory is out.
+fn with_offsets(alloc: Global, streams: &[Stream]) -> Option<Vec<Stream, Global>>
+    requires { All IsPeriodic streams.now }
+    ensures { IfSome result (λ known. All IsPeriodic known.items) }
+{
+    let mut known = Vec::new(alloc);
+    for stream in streams {
+        if stream.offset.is_some() {
+            match known.push(*stream) {
+                Ok(()) => {}
+                Err(_) => return None,
+            }
+        }
+    }
+    Some(known)
+}
+
+/// Whether the windows of a class with these streams come again before too many frames have come.
+fn come_again(
+    alloc: Global,
+    settings: &BoundsSettings,
+    change: &Change,
+    schedule: &Schedule,
+    streams: &[Stream],
+    class: u8,
+) -> bool
+    requires class { class < CLASSES }
+    requires periodic { All IsPeriodic streams.now }
+    requires some { 0 < length streams.now }
+{
+    let sdu = most_sdu(settings, change, class);
+    let Ok(flows) = jittered_flows_of(alloc, settings.port.rate(), sdu, streams) else {
+        return true;
+    };
+    let told = window_bounds(&alloc, schedule, class, flows.as_slice(), settings.frames);
+    !matches!(told, Err(Unbound::Long | Unbound::Late))
+}
+
+/// By what the bounds of a class with these streams are found.
+fn basis_of(
+    alloc: Global,
+    settings: &BoundsSettings,
+    change: &Change,
+    schedule: &Schedule,
+    streams: &[Stream],
+    class: u8,
+) -> Basis
+    requires class { class < CLASSES }
+    requires periodic { All IsPeriodic streams.now }
+    requires some { 0 < length streams.now }
+{
+    if let Some(id) = first_unknown(streams) {
+        Basis::AnyMoments(id)
+    } else if !has_inexact(streams) {
+        Basis::ExactMoments
+    } else if come_again(alloc, settings, change, schedule, streams, class) {
+        Basis::Windows
+    } else {
+        Basis::ManyFrames
+    }
+}
+
+/// Whether a class with this verdict has bounds.
+fn has_bounds(verdict: Verdict) -> bool {
+    matches!(
+        verdict,
+        Verdict::Bounded { .. } | Verdict::Within { .. } | Verdict::Crowded { .. }
+    )
+}
+
+/// Tells who watches when the frames of the streams with offsets would end, if no stream of their class came at any
+/// moments.
+fn tell_without<H: Watch>(
+    alloc: Global,
+    settings: &BoundsSettings,
+    change: &Change,
+    schedule: &Schedule,
+    streams: &[Stream],
+    class: u8,
+    watch: &mut H,
+)
+    requires class { class < CLASSES }
+    requires plan { schedule.now ≡ plan_asked change.now }
+    requires periodic { All IsPeriodic streams.now }
+{
+    let Some(known) = with_offsets(alloc, streams) else {
+        return;
+    };
+    let known = known.as_slice();
+    let Ok(answer) = own_answer(alloc, settings, change, schedule, known, class) else {
+        return;
+    };
+    for place in 0..known.len() {
+        let Some(bound) = answer.bound(place) else {
+            return;
+        };
+        let needs = needs_of(settings.port.rate(), &known[place]);
+        watch.ends_without(known[place].first_id, plus(bound.greatest, needs.longest));
+    }
+}
+
+/// Tells who watches by what the bounds of a class are found.
+fn tell_basis<H: Watch>(
+    alloc: Global,
+    settings: &BoundsSettings,
+    change: &Change,
+    schedule: &Schedule,
+    streams: &[Stream],
+    class: u8,
+    number: u32,
+    watch: &mut H,
+)
+    requires class { class < CLASSES }
+    requires plan { schedule.now ≡ plan_asked change.now }
+    requires periodic { All IsPeriodic streams.now }
+{
+    let Ok(own) = streams_of(alloc, settings, change, streams, class) else {
+        return;
+    };
+    let own = own.as_slice();
+    if own.len() == 0 {
+        return;
+    }
+    let basis = basis_of(alloc, settings, change, schedule, own, class);
+    watch.class_judged(number, class, basis);
+    if let Basis::AnyMoments(_) = basis {
+        tell_without(alloc, settings, change, schedule, own, class, watch);
+    }
+}
+
+/// Tells who watches by what the bounds are found of each class that has some. The schedule is that of the line of this
+/// number.
+pub(crate) fn tell_bases<H: Watch>(
+    alloc: Global,
+    settings: &BoundsSettings,
+    change: &Change,
+    schedule: &Schedule,
+    streams: &[Stream],
+    answers: &Answers,
+    number: u32,
+    watch: &mut H,
+)
+    requires plan { schedule.now ≡ plan_asked change.now }
+    requires periodic { All IsPeriodic streams.now }
+{
+    for class in 0..CLASSES as u8 {
+        if has_bounds(answers.verdict(class)) {
+            tell_basis(
+                alloc, settings, change, schedule, streams, class, number, watch,
+            );
+        }
+    }
+}
