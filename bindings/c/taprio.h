@@ -158,6 +158,17 @@ void taprio_streams_from(uint64_t from_low, uint64_t from_high, const uint8_t *t
                          const uint8_t *script, size_t script_length, uint8_t *output, size_t output_length, uint8_t *fault,
                          size_t fault_length, struct taprio_ran *ran);
 
+/* The same as taprio_streams_from, with each frame as late as its jitter lets it come, as `--late` does. */
+void taprio_streams_late(uint64_t from_low, uint64_t from_high, const uint8_t *table, size_t table_length,
+                         const uint8_t *script, size_t script_length, uint8_t *output, size_t output_length, uint8_t *fault,
+                         size_t fault_length, struct taprio_ran *ran);
+
+/* The same as taprio_streams_from, with each frame at a moment and of a length that `seed` draws from what the table allows, as
+ * `--seed` does: the same for the same seed. */
+void taprio_streams_drawn(uint64_t seed, uint64_t from_low, uint64_t from_high, const uint8_t *table, size_t table_length,
+                          const uint8_t *script, size_t script_length, uint8_t *output, size_t output_length, uint8_t *fault,
+                          size_t fault_length, struct taprio_ran *ran);
+
 /* Reports for each schedule command how long the frames of a table of streams wait, for ever, as `taprio_port bounds` does:
  * which classes the schedule keeps apart, the verdict about each class, and the least and the greatest wait of each stream. The
  * offsets of the table count from the moment at which the schedule comes into force. `frames`, 1 to 1000000000, is how many frames
@@ -168,6 +179,12 @@ void taprio_streams_from(uint64_t from_low, uint64_t from_high, const uint8_t *t
 void taprio_bounds(const struct taprio_port_values *values, uint64_t frames, const uint8_t *table, size_t table_length,
                    const uint8_t *schedules, size_t schedules_length, uint8_t *output, size_t output_length, uint8_t *fault,
                    size_t fault_length, struct taprio_ran *ran);
+
+/* The same, with a line behind that of each stream with a deadline: the greatest jitter with which it still makes it, as `--slack`
+ * reports it. */
+void taprio_bounds_slack(const struct taprio_port_values *values, uint64_t frames, const uint8_t *table, size_t table_length,
+                         const uint8_t *schedules, size_t schedules_length, uint8_t *output, size_t output_length, uint8_t *fault,
+                         size_t fault_length, struct taprio_ran *ran);
 
 /* Draws the run of a script as an SVG picture, as `taprio_port draw` does. The run goes on to `until`, where it is given. There is no output at
  * TAPRIO_BAD_INPUT. */
@@ -258,11 +275,34 @@ static inline void taprio_streams_from_or_null(uint64_t from_low, uint64_t from_
                         taprio_lent(output), output_length, taprio_lent(fault), fault_length, ran);
 }
 
+static inline void taprio_streams_late_or_null(uint64_t from_low, uint64_t from_high, const uint8_t *table, size_t table_length,
+                                               const uint8_t *script, size_t script_length, uint8_t *output, size_t output_length,
+                                               uint8_t *fault, size_t fault_length, struct taprio_ran *ran) {
+    taprio_streams_late(from_low, from_high, taprio_octets(table), table_length, taprio_octets(script), script_length,
+                        taprio_lent(output), output_length, taprio_lent(fault), fault_length, ran);
+}
+
+static inline void taprio_streams_drawn_or_null(uint64_t seed, uint64_t from_low, uint64_t from_high, const uint8_t *table,
+                                                size_t table_length, const uint8_t *script, size_t script_length, uint8_t *output,
+                                                size_t output_length, uint8_t *fault, size_t fault_length,
+                                                struct taprio_ran *ran) {
+    taprio_streams_drawn(seed, from_low, from_high, taprio_octets(table), table_length, taprio_octets(script), script_length,
+                         taprio_lent(output), output_length, taprio_lent(fault), fault_length, ran);
+}
+
 static inline void taprio_bounds_or_null(const struct taprio_port_values *values, uint64_t frames, const uint8_t *table,
                                          size_t table_length, const uint8_t *schedules, size_t schedules_length, uint8_t *output,
                                          size_t output_length, uint8_t *fault, size_t fault_length, struct taprio_ran *ran) {
     taprio_bounds(values, frames, taprio_octets(table), table_length, taprio_octets(schedules), schedules_length,
                   taprio_lent(output), output_length, taprio_lent(fault), fault_length, ran);
+}
+
+static inline void taprio_bounds_slack_or_null(const struct taprio_port_values *values, uint64_t frames, const uint8_t *table,
+                                               size_t table_length, const uint8_t *schedules, size_t schedules_length,
+                                               uint8_t *output, size_t output_length, uint8_t *fault, size_t fault_length,
+                                               struct taprio_ran *ran) {
+    taprio_bounds_slack(values, frames, taprio_octets(table), table_length, taprio_octets(schedules), schedules_length,
+                        taprio_lent(output), output_length, taprio_lent(fault), fault_length, ran);
 }
 
 static inline void taprio_draw_or_null(const struct taprio_port_values *values, const struct taprio_picture_values *shown,
@@ -298,7 +338,10 @@ static inline void taprio_replay_stamped_or_null(const struct taprio_port_values
 #define taprio_check taprio_check_or_null
 #define taprio_streams taprio_streams_or_null
 #define taprio_streams_from taprio_streams_from_or_null
+#define taprio_streams_late taprio_streams_late_or_null
+#define taprio_streams_drawn taprio_streams_drawn_or_null
 #define taprio_bounds taprio_bounds_or_null
+#define taprio_bounds_slack taprio_bounds_slack_or_null
 #define taprio_draw taprio_draw_or_null
 #define taprio_replay taprio_replay_or_null
 #define taprio_replay_stamped taprio_replay_stamped_or_null

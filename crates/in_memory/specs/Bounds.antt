@@ -1,5 +1,5 @@
 -- What a call over memory reports of delay bounds.
-use Rattle.std.specs.Prelude.{◌⊎◌, ℕ, List, nat_le, ◌&&◌, [], false, Option, Some, None, Result, Ok, Err, if◌then◌else◌}
+use Rattle.std.specs.Prelude.{◌⊎◌, ℕ, List, nat_le, ◌&&◌, [], Bool, false, Option, Some, None, Result, Ok, Err, if◌then◌else◌}
 use Rattle.abstract_port.specs.declared.Command.{Command}
 use Rattle.stream_bounds.specs.BoundsEnd.{bounds_value_text, with_port}
 use Rattle.stream_bounds.specs.Faults.{bounds_telling}
@@ -17,9 +17,9 @@ use Rattle.in_memory.specs.declared.values.PortValues.{PortValues}
 abbrev pub frames_at : ℕ → Option ℕ
 frames_at frames = if nat_le 1 frames && nat_le frames MAX_FRAMES then Some frames else None
 
--- the settings of values and of so many frames, or the first that is bad; they are not strict
-abbrev pub bounds_settings_at : PortValues → ℕ → Result BoundsSettings BoundsValue
-bounds_settings_at v frames = with_port (settings_at v) (Some None) (frames_at frames) false
+-- the settings of values and of so many frames, and whether slack is told; or the first that is bad. They are not strict.
+abbrev pub bounds_settings_at : PortValues → ℕ → Bool → Result BoundsSettings BoundsValue
+bounds_settings_at v frames slack = with_port (settings_at v) (Some None) (frames_at frames) false slack
 
 -- a bad value, with status 2 and no output
 abbrev pub refused_bounds : BoundsValue → Told

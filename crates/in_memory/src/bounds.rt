@@ -27,10 +27,14 @@ fn frames_at(frames: u64) -> Option<u64>
     }
 }
 
-/// The settings of these values and of so many frames, which are not strict. The first that is out of its limits is the
-/// fault.
-fn bounds_settings_at(values: PortValues, frames: u64) -> Result<BoundsSettings, BoundsValue>
-    ensures { result ≡ bounds_settings_at values frames }
+/// The settings of these values and of so many frames, which are not strict, with the slack of streams where it is asked.
+/// The first that is out of its limits is the fault.
+fn bounds_settings_at(
+    values: PortValues,
+    frames: u64,
+    slack: bool,
+) -> Result<BoundsSettings, BoundsValue>
+    ensures { result ≡ bounds_settings_at values frames slack }
 {
     let port = match settings_at(values) {
         Ok(port) => port,
@@ -42,6 +46,7 @@ fn bounds_settings_at(values: PortValues, frames: u64) -> Result<BoundsSettings,
             map: None,
             frames,
             strict: false,
+            slack,
         }),
         None => Err(BoundsValue::Frames),
     }
@@ -74,7 +79,8 @@ fn bounds_with(
 
 /// Answers how long the frames of a table's streams wait under each schedule, for ever, with these values: what
 /// `stream_bounds::bounds` writes comes into `output`, and the text of a fault into `fault`, as the program writes it
-/// on its standard error. `frames`, 1 to 1,000,000,000, is how many frames of a class are looked at, at most. A
+/// on its standard error. `frames`, 1 to 1,000,000,000, is how many frames of a class are looked at, at most. With
+/// `slack` it is also told which jitter the streams with deadlines may have. A
 /// deadline that is missed is no fault: the lines say it. The moment to run to and the summary of the values change
 /// nothing, but a moment out of its limits is refused.
 ///
@@ -84,16 +90,17 @@ pub fn bounds_octets(
     alloc: Global,
     values: PortValues,
     frames: u64,
+    slack: bool,
     table: &[u8],
     schedules: &[u8],
     output: &mut [u8],
     fault: &mut [u8],
 ) -> Ran
     ensures { (read : List (List ℕ) → Result Command TcFault) → IsReader read →
-        AnswersBounds read (bounds_settings_at values frames) table.now schedules.now
+        AnswersBounds read (bounds_settings_at values frames slack) table.now schedules.now
         result (slices output.old fault.old) (slices output.new fault.new) }
 {
-    let settings = match bounds_settings_at(values, frames) {
+    let settings = match bounds_settings_at(values, frames, slack) {
         Ok(settings) => settings,
         Err(BoundsValue::Port(value)) => return refuse_value(&alloc, value, output, fault),
         Err(BoundsValue::Frames) => return put_told(2, b"", BAD_FRAMES, output, fault),

@@ -7,7 +7,7 @@
 
 mod values;
 
-ghost use Rattle.std.specs.Prelude.{◌≡◌, List, ℕ, Result};
+ghost use Rattle.std.specs.Prelude.{◌≡◌, List, ℕ, Result, false, true};
 ghost use Rattle.abstract_port.specs.declared.Command.{Command};
 ghost use Rattle.capture.specs.Records.{Entry};
 ghost use Rattle.capture.specs.declared.fault.CapFault.{CapFault};
@@ -33,7 +33,8 @@ ghost use Rattle.tc_reader.specs.Reader.{IsReader};
 ghost use Rattle.tc_reader.specs.declared.fault.TcFault.{TcFault};
 ghost use Rattle.traffic.specs.Faults.{streams_telling};
 ghost use Rattle.traffic.specs.Outcome.{outcome_of as streams_outcome_of};
-ghost use Rattle.traffic.specs.Plan.{earliest_from};
+ghost use Rattle.traffic.specs.Plan.{timed_from};
+ghost use Rattle.traffic.specs.declared.plan.Timing.TheVariants.{Drawn, Earliest, Latest};
 
 use crate::values::{is_wanted, moment_of, moment_said, picture_values, port_values, stamp_of};
 use in_memory::{
@@ -42,6 +43,7 @@ use in_memory::{
 };
 use replay::Stamp;
 use std::alloc::Global;
+use traffic::Timing;
 pub use values::{CMoment, CPictureValues, CPortValues};
 
 /// Runs a script: its answers come into `output`, and the text of a fault into `fault`; how it ended is written to
@@ -147,9 +149,9 @@ pub extern "C" fn taprio_streams(
     fault: &mut [u8],
     ran: &mut Ran,
 )
-    ensures { Answers (told_of streams_telling (streams_outcome_of (earliest_from 0) table.now script.now)) ran.new (slices output.old fault.old) (slices output.new fault.new) }
+    ensures { Answers (told_of streams_telling (streams_outcome_of (timed_from Earliest 0) table.now script.now)) ran.new (slices output.old fault.old) (slices output.new fault.new) }
 {
-    *ran = streams_octets(&alloc, 0, table, script, output, fault);
+    *ran = streams_octets(&alloc, Timing::Earliest, 0, table, script, output, fault);
 }
 
 /// The same, with a moment that is added to each offset: `from_high * 2^64 + from_low` picoseconds.
@@ -164,10 +166,59 @@ pub extern "C" fn taprio_streams_from(
     fault: &mut [u8],
     ran: &mut Ran,
 )
-    ensures { Answers (told_by streams_telling (λ from. streams_outcome_of (earliest_from from) table.now script.now) (from_at (moment_of from_low from_high))) ran.new (slices output.old fault.old) (slices output.new fault.new) }
+    ensures { Answers (told_by streams_telling (λ from. streams_outcome_of (timed_from Earliest from) table.now script.now) (from_at (moment_of from_low from_high))) ran.new (slices output.old fault.old) (slices output.new fault.new) }
 {
     let from = moment_of(from_low, from_high);
-    *ran = streams_octets(&alloc, from, table, script, output, fault);
+    *ran = streams_octets(&alloc, Timing::Earliest, from, table, script, output, fault);
+}
+
+/// The same, with each frame as late as it may come.
+#[unsafe(no_mangle)]
+pub extern "C" fn taprio_streams_late(
+    alloc: Global,
+    from_low: u64,
+    from_high: u64,
+    table: &[u8],
+    script: &[u8],
+    output: &mut [u8],
+    fault: &mut [u8],
+    ran: &mut Ran,
+)
+    ensures { Answers
+        (told_by streams_telling (λ from. streams_outcome_of (timed_from Latest from) table.now script.now)
+        (from_at (moment_of from_low from_high))) ran.new (slices output.old fault.old) (slices output.new fault.new) }
+{
+    let from = moment_of(from_low, from_high);
+    *ran = streams_octets(&alloc, Timing::Latest, from, table, script, output, fault);
+}
+
+/// The same, with each frame at a moment, and of a length, that `seed` draws.
+#[unsafe(no_mangle)]
+pub extern "C" fn taprio_streams_drawn(
+    alloc: Global,
+    seed: u64,
+    from_low: u64,
+    from_high: u64,
+    table: &[u8],
+    script: &[u8],
+    output: &mut [u8],
+    fault: &mut [u8],
+    ran: &mut Ran,
+)
+    ensures { Answers
+        (told_by streams_telling (λ from. streams_outcome_of (timed_from (Drawn seed) from) table.now script.now)
+        (from_at (moment_of from_low from_high))) ran.new (slices output.old fault.old) (slices output.new fault.new) }
+{
+    let from = moment_of(from_low, from_high);
+    *ran = streams_octets(
+        &alloc,
+        Timing::Drawn(seed),
+        from,
+        table,
+        script,
+        output,
+        fault,
+    );
 }
 
 /// Answers how long the frames of a table's streams wait under each schedule, for ever; at most `frames` frames of a
@@ -184,13 +235,42 @@ pub extern "C" fn taprio_bounds(
     ran: &mut Ran,
 )
     ensures { (read : List (List ℕ) → Result Command TcFault) → IsReader read →
-        AnswersBounds read (bounds_settings_at (port_values values.now) frames) table.now schedules.now
+        AnswersBounds read (bounds_settings_at (port_values values.now) frames false) table.now schedules.now
         ran.new (slices output.old fault.old) (slices output.new fault.new) }
 {
     *ran = bounds_octets(
         alloc,
         port_values(values),
         frames,
+        false,
+        table,
+        schedules,
+        output,
+        fault,
+    );
+}
+
+/// The same, with the greatest jitter that each stream with a deadline may have.
+#[unsafe(no_mangle)]
+pub extern "C" fn taprio_bounds_slack(
+    alloc: Global,
+    values: &CPortValues,
+    frames: u64,
+    table: &[u8],
+    schedules: &[u8],
+    output: &mut [u8],
+    fault: &mut [u8],
+    ran: &mut Ran,
+)
+    ensures { (read : List (List ℕ) → Result Command TcFault) → IsReader read →
+        AnswersBounds read (bounds_settings_at (port_values values.now) frames true) table.now schedules.now
+        ran.new (slices output.old fault.old) (slices output.new fault.new) }
+{
+    *ran = bounds_octets(
+        alloc,
+        port_values(values),
+        frames,
+        true,
         table,
         schedules,
         output,

@@ -17,7 +17,16 @@ const MISSED: &[u8] = b"apart 0 1\nbound 7 dropped Runt deadline 1 missed\n";
 /// Whether a deadline that is missed is no fault.
 fn is_missed(alloc: Global) -> bool {
     let (mut output, mut fault) = (DOTS, DOTS);
-    let ran = bounds_octets(alloc, USUAL, 1, LOST, SCHEDULE, &mut output, &mut fault);
+    let ran = bounds_octets(
+        alloc,
+        USUAL,
+        1,
+        false,
+        LOST,
+        SCHEDULE,
+        &mut output,
+        &mut fault,
+    );
     ran == done(MISSED.len()) && has(&output, MISSED) && has(&fault, b"")
 }
 
@@ -37,6 +46,7 @@ fn is_refused(alloc: Global, values: PortValues, frames: u64, text: &[u8], statu
         alloc,
         values,
         frames,
+        false,
         table,
         SCHEDULE,
         &mut output,

@@ -6,6 +6,7 @@ use in_memory::{
     frames_octets, frames_of_capture_octets, run_octets, streams_octets,
 };
 use std::alloc::Global;
+use traffic::Timing;
 
 /// A job over memory with one writer.
 #[derive(Clone, Copy)]
@@ -47,11 +48,11 @@ pub fn ran_by(
     match job {
         Job::Script => run_octets(&alloc, USUAL, first, output, fault),
         Job::Check => check_octets(&alloc, 1000, true, first, output, fault),
-        Job::Streams => streams_octets(&alloc, 0, first, second, output, fault),
+        Job::Streams => streams_octets(&alloc, Timing::Earliest, 0, first, second, output, fault),
         Job::Frames => frames_octets(&alloc, USUAL, first, output, fault),
         Job::ByStream => { frames_by_stream_octets(&alloc, USUAL, first, second, output, fault) }
         Job::OfCapture => { frames_of_capture_octets(&alloc, USUAL, first, second, output, fault) }
         Job::Draw => draw_octets(alloc, USUAL, SHOWN, first, output, fault),
-        Job::Bounds => bounds_octets(alloc, USUAL, 9, first, second, output, fault),
+        Job::Bounds => bounds_octets(alloc, USUAL, 9, false, first, second, output, fault),
     }
 }

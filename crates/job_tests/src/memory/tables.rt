@@ -3,6 +3,7 @@
 use crate::memory::lent::{DOTS, done, has};
 use in_memory::{Ran, streams_octets};
 use std::alloc::Global;
+use traffic::Timing;
 use wire_time::MAX_MOMENT;
 
 /// Two frames of one stream.
@@ -18,7 +19,15 @@ const BOTH: &[u8] =
 /// Whether that is written.
 fn is_made(alloc: Global) -> bool {
     let (mut output, mut fault) = (DOTS, DOTS);
-    let ran = streams_octets(&alloc, 0, TABLE, SCRIPT, &mut output, &mut fault);
+    let ran = streams_octets(
+        &alloc,
+        Timing::Earliest,
+        0,
+        TABLE,
+        SCRIPT,
+        &mut output,
+        &mut fault,
+    );
     ran == done(BOTH.len()) && has(&output, BOTH) && has(&fault, b"")
 }
 
@@ -30,7 +39,15 @@ fn makes_a_script_with_lines(rt: HostRuntime) {
 /// Whether the table's offsets count from a moment: its script, or a fault with its text.
 fn comes_later(alloc: Global, from: u128, text: &[u8], said: &[u8], status: u8) -> bool {
     let (mut output, mut fault) = (DOTS, DOTS);
-    let ran = streams_octets(&alloc, from, TABLE, b"", &mut output, &mut fault);
+    let ran = streams_octets(
+        &alloc,
+        Timing::Earliest,
+        from,
+        TABLE,
+        b"",
+        &mut output,
+        &mut fault,
+    );
     let wanted = Ran {
         output: text.len(),
         fault: said.len(),
