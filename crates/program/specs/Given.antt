@@ -75,7 +75,11 @@ draws_in found = options_of (draw_words_in found)
 
 -- what the words that are given to the options of `streams` say
 abbrev pub streams_in : Found → StreamsGiven
-streams_in found = record { from = first_value found (codes "from"); late = flag_in (codes "late") found }
+streams_in found = record {
+  from = first_value found (codes "from");
+  late = flag_in (codes "late") found;
+  seed = first_value found (codes "seed");
+}
 
 -- how the frames of a table come by them
 abbrev pub plan_in : Found → Result Plan BadValue
@@ -91,7 +95,9 @@ IsGivenStreams (Err value) (Some path) table ended old got errors_old errors_new
 
 -- the settings of the values that are given to the options of bounds
 abbrev pub bounds_in : Found → Result BoundsSettings BoundsValue
-bounds_in found = bounds_given (words_in found) (first_value found (codes "map")) (first_value found (codes "frames")) (flag_in (codes "strict") found)
+bounds_in found =
+    bounds_given (words_in found) (first_value found (codes "map")) (first_value found (codes "frames"))
+    (flag_in (codes "strict") found) (flag_in (codes "slack") found)
 
 -- The end of a run on schedules and the table that the words name: that of the schedules and of some octets, since what a file gives is not known, or
 -- of the path that can't be opened; or of a value that is bad, which comes first. There is no end where the words name no table: they are refused then.

@@ -49,10 +49,10 @@ rules_of Names.Replay =
 rules_of Names.Check =
     option (codes "rate") ∷ option (codes "mtu") ∷ option (codes "map") ∷ flag (codes "windows") ∷ option (codes "frame")
     ∷ flag (codes "script") ∷ flag (codes "strict") ∷ flag (codes "explain") ∷ []
-rules_of Names.Streams = option (codes "with") ∷ option (codes "from") ∷ flag (codes "late") ∷ flag (codes "strict") ∷ flag (codes "explain") ∷ []
+rules_of Names.Streams = option (codes "with") ∷ option (codes "from") ∷ flag (codes "late") ∷ option (codes "seed") ∷ flag (codes "strict") ∷ flag (codes "explain") ∷ []
 rules_of Names.Bounds =
     option (codes "rate") ∷ option (codes "mtu") ∷ option (codes "room") ∷ option (codes "map") ∷ option (codes "frames")
-    ∷ flag (codes "strict") ∷ flag (codes "explain") ∷ file (codes "table") ∷ []
+    ∷ flag (codes "slack") ∷ flag (codes "strict") ∷ flag (codes "explain") ∷ file (codes "table") ∷ []
 rules_of Names.Draw =
     option (codes "rate") ∷ option (codes "mtu") ∷ option (codes "room") ∷ option (codes "until") ∷ option (codes "from")
     ∷ option (codes "to") ∷ option (codes "width") ∷ flag (codes "strict") ∷ flag (codes "explain") ∷ []

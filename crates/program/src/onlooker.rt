@@ -7,12 +7,13 @@ use crate::stream_ids::{StreamIds, ids_of};
 use abstract_port::Dropped;
 use arrayvec::ArrayVec;
 use hints::{
-    put_busy_class, put_comment, put_failure, put_fault_hint, put_frame_dropped, put_frames_left,
-    put_missed, put_no_command, put_no_frame, put_none_judged, put_shared_ids,
+    put_basis, put_busy_class, put_comment, put_end_without, put_failure, put_fault_hint,
+    put_frame_dropped, put_frames_left, put_missed, put_no_command, put_no_frame, put_none_judged,
+    put_shared_ids,
 };
 use job::{CaptureKind, Ended, Errors, FaultKind};
 use octet_writer::put;
-use script::{Failure, Missed, Watch, read_tc};
+use script::{Basis, Failure, Missed, Watch, read_tc};
 use std::alloc::Global;
 use std::io::{self, Write};
 use std::time::Clock;
@@ -342,6 +343,22 @@ impl<C: Clock, P: Write + Drop, E: Write> Watch for Onlooker<'_, '_, C, P, E> {
         if self.comments < EXPLAINED {
             self.comments += 1;
             let _ = put_busy_class(self.errors, number, class, every);
+            let _ = self.errors.flush();
+        }
+    }
+
+    fn class_judged(&mut self, number: u32, class: u8, basis: Basis) {
+        if self.comments < EXPLAINED {
+            self.comments += 1;
+            let _ = put_basis(self.errors, number, class, basis);
+            let _ = self.errors.flush();
+        }
+    }
+
+    fn ends_without(&mut self, first_id: u64, end: u128) {
+        if self.comments < EXPLAINED {
+            self.comments += 1;
+            let _ = put_end_without(self.errors, first_id, end);
             let _ = self.errors.flush();
         }
     }

@@ -72,6 +72,7 @@ pub(crate) fn streams_of<'a>(matches: &ArgMatches<'a>) -> StreamsWords<'a>
     StreamsWords {
         from: matches.get_str("from"),
         late: is_given(matches, "late"),
+        seed: matches.get_str("seed"),
     }
 }
 
@@ -81,12 +82,14 @@ pub(crate) fn bounds_of<'a>(matches: &ArgMatches<'a>) -> BoundsWords<'a>
     ensures map { octets_of result.map ≡ first_value (found_of matches.now) (codes "map") }
     ensures frames { octets_of result.frames ≡ first_value (found_of matches.now) (codes "frames") }
     ensures strict { result.strict ≡ flag_in (codes "strict") (found_of matches.now) }
+    ensures slack { result.slack ≡ flag_in (codes "slack") (found_of matches.now) }
 {
     BoundsWords {
         port: values_of(matches),
         map: matches.get_str("map"),
         frames: matches.get_str("frames"),
         strict: is_given(matches, "strict"),
+        slack: is_given(matches, "slack"),
     }
 }
 
@@ -301,11 +304,27 @@ const LATE: Word = Word {
     without: None,
 };
 
+const SEED: Word = Word {
+    given: Given::Value,
+    name: "seed",
+    value: "NUMBER",
+    help: "Have each frame come at a moment, and with a length, that are drawn from what the table allows: the same for the same number",
+    without: None,
+};
+
 const FRAMES: Word = Word {
     given: Given::Value,
     name: "frames",
     value: "FRAMES",
     help: "Look at so many frames of a class at most, 1 to 1000000000 [default: 1000000]",
+    without: None,
+};
+
+const SLACK: Word = Word {
+    given: Given::Flag,
+    name: "slack",
+    value: "",
+    help: "Report the greatest jitter with which each stream still makes its deadline",
     without: None,
 };
 
@@ -442,12 +461,12 @@ pub(crate) const JOBS: [Job; 7] = [
     Job {
         name: JobName::Streams,
         about: "Writes a script with the frames of the streams in a table on standard input",
-        words: &[LINES, OFFSETS_FROM, LATE, STRICT_STREAMS, EXPLAIN],
+        words: &[LINES, OFFSETS_FROM, LATE, SEED, STRICT_STREAMS, EXPLAIN],
     },
     Job {
         name: JobName::Bounds,
         about: "Reports how long the frames of the streams in a table can ever wait, by the schedule commands on standard input",
-        words: &[RATE, MTU, ROOM, MAP, FRAMES, STRICT, EXPLAIN, TABLE],
+        words: &[RATE, MTU, ROOM, MAP, FRAMES, SLACK, STRICT, EXPLAIN, TABLE],
     },
     Job {
         name: JobName::Draw,

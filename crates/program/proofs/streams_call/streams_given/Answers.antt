@@ -1,4 +1,5 @@
 use Rattle.std.proofs.Common.{◌≡◌, List, ℕ, Option, Some, Result, Ok, Err, codes, inr, ap, sym, ◌∙◌, subst}
+use Rattle.std.specs.Prelude.{IfErr}
 use Rattle.octet_writer.specs.Buffered.{writer_contents}
 use Rattle.clap.specs.Matches.{first_value, found_of}
 use Rattle.program.specs.Given.{IsGivenStreams, plan_in}
@@ -14,6 +15,11 @@ returns-in_default-clause-ending g c =
     let said : plan_given (words_of_streams c.streams_of-words.result) ≡ plan_in (found_of c.args.matches.now) = ap plan_given c.streams_of-words.ensures in
     subst (λ (plan : Result Plan BadValue). ends plan (first_value (found_of c.args.matches.now) (codes "with"))) said
     (subst (ends (plan_given (words_of_streams c.streams_of-words.result))) c.in_default.ensures (rw c.as_slice.ensures at out.ensures.ending))
+
+pub returns-in_default-clause-unread : goal.returns-in_default-clause-unread
+returns-in_default-clause-unread g c =
+    let said : plan_given (words_of_streams c.streams_of-words.result) ≡ plan_in (found_of c.args.matches.now) = ap plan_given c.streams_of-words.ensures in
+    subst (λ (plan : Result Plan BadValue). IfErr plan (λ _. c.answer_streams.new.reader ≡ c.args.reader.now)) said c.answer_streams.ensures.unread
 
 pub returns-in-Err-clause-ending : goal.returns-in-Err-clause-ending
 returns-in-Err-clause-ending g c =
