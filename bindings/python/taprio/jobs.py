@@ -36,13 +36,14 @@ def check(schedules: Union[Schedule, Configured, Octets], rate: int = 1000, wind
     return backend().check(lines(schedules), rate, windows)
 
 
-def streams(table: Octets, script: Octets = b"", from_: int = 0, late: bool = False) -> bytes:
+def streams(table: Octets, script: Octets = b"", from_: int = 0, late: bool = False, seed: int | None = None) -> bytes:
     """Makes a script with the frames of a table of streams, and with the lines of another script among them.
 
     `from_` is added to each offset: a moment in picoseconds, at most 9223372036854775807000, such as the one at which the schedule of
-    the script comes into force. Each frame comes at its earliest moment, and with `late` at its latest, which the program alone has.
+    the script comes into force. Each frame comes at its earliest moment, with `late` at its latest, and with a `seed`, a whole number
+    below 2^64, at a moment and with a length that it draws: the same for the same seed.
     """
-    return backend().streams(table, script, from_, late)
+    return backend().streams(table, script, from_, late, seed)
 
 
 def draw(

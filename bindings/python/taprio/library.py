@@ -94,8 +94,8 @@ _OF_PORT: dict[str, list[Any]] = {
     "taprio_port_free": [],
 }
 
-# What a shared object lacks that was built before there were bounds, tables of frames, or ports that are driven.
-_LATER = ("taprio_streams_from", "taprio_bounds", "taprio_frames", "taprio_replay_stamped", "taprio_frames_by_stream", "taprio_frames_of_capture", "taprio_moment", *_OF_PORT)
+# What a shared object lacks that was built before there were bounds, tables of frames, ports that are driven, or late frames.
+_LATER = ("taprio_streams_from", "taprio_bounds", "taprio_frames", "taprio_replay_stamped", "taprio_frames_by_stream", "taprio_frames_of_capture", "taprio_moment", "taprio_streams_late", "taprio_streams_drawn", "taprio_bounds_slack", *_OF_PORT)
 
 
 def _path() -> str:
@@ -132,7 +132,10 @@ def _typed(library: ctypes.CDLL) -> ctypes.CDLL:
         "taprio_check": [ctypes.c_uint32, ctypes.c_uint32, *_OCTETS, *_LENT, *_LENT, ran],
         "taprio_streams": [*_OCTETS, *_OCTETS, *_LENT, *_LENT, ran],
         "taprio_streams_from": [ctypes.c_uint64, ctypes.c_uint64, *_OCTETS, *_OCTETS, *_LENT, *_LENT, ran],
+        "taprio_streams_late": [ctypes.c_uint64, ctypes.c_uint64, *_OCTETS, *_OCTETS, *_LENT, *_LENT, ran],
+        "taprio_streams_drawn": [ctypes.c_uint64, ctypes.c_uint64, ctypes.c_uint64, *_OCTETS, *_OCTETS, *_LENT, *_LENT, ran],
         "taprio_bounds": [port, ctypes.c_uint64, *_OCTETS, *_OCTETS, *_LENT, *_LENT, ran],
+        "taprio_bounds_slack": [port, ctypes.c_uint64, *_OCTETS, *_OCTETS, *_LENT, *_LENT, ran],
         "taprio_draw": [port, picture, *_OCTETS, *_LENT, *_LENT, ran],
         "taprio_replay": [port, *_OCTETS, *_OCTETS, *_LENT, *_LENT, *_LENT, replay_ran],
         "taprio_replay_stamped": [port, ctypes.c_uint32, *_OCTETS, *_OCTETS, *_LENT, *_LENT, *_LENT, replay_ran],
@@ -185,6 +188,18 @@ def number(value: int, bits: int, name: str) -> int:
         raise TypeError(f"{name} is a whole number, not {value!r}")
     most = (1 << bits) - 1
     return given if 0 <= given <= most else most
+
+
+def seed_of(seed: int, late: bool) -> int:
+    """A seed of 64 bits. Another one would draw other frames, so it is no value that is made to fit."""
+    given = index(seed)
+    if given is None:
+        raise TypeError(f"seed is a whole number, not {seed!r}")
+    if not 0 <= given < 1 << 64:
+        raise ValueError(f"seed is 0 to {(1 << 64) - 1}, not {given}")
+    if late:
+        raise ValueError("frames come late, or as a seed draws them, and not both")
+    return given
 
 
 def _halves(moment: int | None, name: str) -> tuple[int, int, int]:
@@ -299,38 +314,46 @@ def check(schedules: Octets, rate: int = 1000, windows: bool = False) -> bytes:
     return _one("taprio_check", given, 4 * len(schedules) + 4096)
 
 
-def streams(table: Octets, script: Octets = b"", from_: int = 0, late: bool = False) -> bytes:
+def streams(table: Octets, script: Octets = b"", from_: int = 0, late: bool = False, seed: int | None = None) -> bytes:
     """Makes a script with the frames of a table of streams, and with the lines of another script among them.
 
     `from_` is added to each offset: a moment in picoseconds, at most 9223372036854775807000, such as the one at which the schedule of
-    the script comes into force. The library has no call for `late`, which raises `LibraryMissing`.
+    the script comes into force. Each frame comes at its earliest moment, with `late` at its latest, and with a `seed`, below 2^64, at a
+    moment and with a length that it draws; with both, `ValueError` is raised.
     """
-    if late:
-        raise LibraryMissing(
-            "the library has no call for frames that come late: call the program instead with taprio.Program, or name it in TAPRIO_PORT"
-        )
     table, script = octets(table), octets(script)
     given = [table, len(table), script, len(script)]
     guess = 4 * (len(table) + len(script)) + 65536
+    _, low, high = _halves(from_, "from_")
+    if seed is not None:
+        return _one("taprio_streams_drawn", [seed_of(seed, late), low, high, *given], guess)
+    if late:
+        return _one("taprio_streams_late", [low, high, *given], guess)
     if from_ == 0:
         return _one("taprio_streams", given, guess)
-    _, low, high = _halves(from_, "from_")
     return _one("taprio_streams_from", [low, high, *given], guess)
 
 
 def bounds(
-    table: Octets, schedules: Octets, rate: int = 1000, mtu: int = 1500, room: int = 128, frames: int = 1_000_000
+    table: Octets,
+    schedules: Octets,
+    rate: int = 1000,
+    mtu: int = 1500,
+    room: int = 128,
+    frames: int = 1_000_000,
+    slack: bool = False,
 ) -> bytes:
     """Tells for each schedule command how long the frames of a table of streams wait, for ever: the classes that it keeps apart, the
     verdict about each class that has streams, and the least and the greatest wait of each stream, with whether its deadline is met.
 
-    `rate`, `mtu` and `room` are those of `run`; `frames`, 1 to 1,000,000,000, is how many frames of a class are looked at, at most. A
+    `rate`, `mtu` and `room` are those of `run`; `frames`, 1 to 1,000,000,000, is how many frames of a class are looked at, at most. With
+    `slack` it is also told how much jitter each stream with a deadline may have. A
     deadline that is missed is no fault. `taprio.read_bounds` reads what is told, and `taprio.bounds` does both.
     """
     table, schedules = octets(table), octets(schedules)
     port = ctypes.byref(_port(rate, mtu, room, None, False))
     given = [port, number(frames, 64, "frames"), table, len(table), schedules, len(schedules)]
-    return _one("taprio_bounds", given, 4 * (len(table) + len(schedules)) + 4096)
+    return _one("taprio_bounds_slack" if slack else "taprio_bounds", given, 4 * (len(table) + len(schedules)) + 4096)
 
 
 def _beginning(begin: int | None) -> tuple[int, int]:

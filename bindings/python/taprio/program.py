@@ -13,7 +13,7 @@ from typing import NoReturn, Protocol, Union
 
 from . import library
 from .faults import BAD_INPUT, BAD_VALUE, LibraryMissing, Replay, TaprioError, of_text
-from .library import Library, Octets, number, octets, stamp_is_end, streams_or_capture
+from .library import Library, Octets, number, octets, seed_of, stamp_is_end, streams_or_capture
 
 __all__ = ["Backend", "Chosen", "Program", "backend"]
 
@@ -41,13 +41,23 @@ class Backend(Protocol):
     def check(self, schedules: Octets, rate: int = 1000, windows: bool = False) -> bytes:
         """What schedules keep apart, and their windows."""
 
-    def streams(self, table: Octets, script: Octets = b"", from_: int = 0, late: bool = False) -> bytes:
-        """A script with the frames of a table, whose offsets count from `from_`; with `late` each at its latest moment."""
+    def streams(
+        self, table: Octets, script: Octets = b"", from_: int = 0, late: bool = False, seed: int | None = None
+    ) -> bytes:
+        """A script with the frames of a table, whose offsets count from `from_`; with `late` each at its latest moment, and with a `seed`
+        at one that it draws."""
 
     def bounds(
-        self, table: Octets, schedules: Octets, rate: int = 1000, mtu: int = 1500, room: int = 128, frames: int = 1_000_000
+        self,
+        table: Octets,
+        schedules: Octets,
+        rate: int = 1000,
+        mtu: int = 1500,
+        room: int = 128,
+        frames: int = 1_000_000,
+        slack: bool = False,
     ) -> bytes:
-        """How long the frames of a table wait under each schedule, for ever."""
+        """How long the frames of a table wait under each schedule, for ever; with `slack` also how much jitter each stream may have."""
 
     def draw(
         self,
@@ -159,18 +169,28 @@ class Program:
             raise of_text(status, text, output)
         return output
 
-    def streams(self, table: Octets, script: Octets = b"", from_: int = 0, late: bool = False) -> bytes:
+    def streams(
+        self, table: Octets, script: Octets = b"", from_: int = 0, late: bool = False, seed: int | None = None
+    ) -> bytes:
         """Makes a script of a table of streams, as `taprio.streams` does."""
         table, script = octets(table), octets(script)
         words = ["streams", "--with", "script", *([] if from_ == 0 else ["--from", str(number(from_, 128, "from_"))]), *(["--late"] if late else [])]
+        words += [] if seed is None else ["--seed", str(seed_of(seed, late))]
         return self._with_file(words, "script", script, table)
 
     def bounds(
-        self, table: Octets, schedules: Octets, rate: int = 1000, mtu: int = 1500, room: int = 128, frames: int = 1_000_000
+        self,
+        table: Octets,
+        schedules: Octets,
+        rate: int = 1000,
+        mtu: int = 1500,
+        room: int = 128,
+        frames: int = 1_000_000,
+        slack: bool = False,
     ) -> bytes:
         """Tells how long the frames of a table wait under each schedule, as `taprio.library.bounds` does."""
         table, schedules = octets(table), octets(schedules)
-        words = ["bounds", *self._port(rate, mtu, room, None, False), "--frames", str(number(frames, 64, "frames")), "table"]
+        words = ["bounds", *self._port(rate, mtu, room, None, False), "--frames", str(number(frames, 64, "frames")), *(["--slack"] if slack else []), "table"]
         return self._with_file(words, "table", table, schedules)
 
     def draw(

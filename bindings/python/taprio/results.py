@@ -387,6 +387,8 @@ class StreamBound:
     """Its deadline, in picoseconds; None where it has none."""
     met: bool | None = None
     """Whether each frame has left by its deadline; None where that isn't known, or there is no deadline."""
+    slack: int | None = None
+    """Where slack is asked, the greatest jitter with which it makes its deadline, in picoseconds; None where it makes it with none."""
 
 
 @dataclasses.dataclass(frozen=True)
@@ -781,6 +783,9 @@ _BOUND = re.compile(
 )
 
 
+_SLACK = re.compile(r"slack (\d+) (?:none|jitter (\d+))")
+
+
 def _number(text: str | None) -> int | None:
     return None if text is None else int(text)
 
@@ -814,7 +819,7 @@ def read_bounds(answers: Octets) -> Bounds:
     """What bounds tell of each schedule. A text that no bounds write raises `BadAnswer`."""
     found: list[Bounded] = []
     for number, line in enumerate(octets(answers).decode("utf-8", "replace").splitlines(), 1):
-        apart, verdict, bound = _APART.fullmatch(line), _CLASS.fullmatch(line), _BOUND.fullmatch(line)
+        apart, verdict, bound, slack = (form.fullmatch(line) for form in (_APART, _CLASS, _BOUND, _SLACK))
         last = found[-1] if found and found[-1].apart is not None else None
         if apart:
             found.append(Bounded(() if apart[1] == "none" else tuple(map(int, apart[1].split()))))
@@ -822,6 +827,9 @@ def read_bounds(answers: Octets) -> Bounds:
             found[-1] = dataclasses.replace(last, classes=(*last.classes, _verdict(verdict)))
         elif bound and last:
             found[-1] = dataclasses.replace(last, streams=(*last.streams, _bound(bound)))
+        elif slack and last and last.streams and last.streams[-1].first_id == int(slack[1]):
+            stream = dataclasses.replace(last.streams[-1], slack=_number(slack[2]))
+            found[-1] = dataclasses.replace(last, streams=(*last.streams[:-1], stream))
         else:
             answer = _answer(line, number)
             if not isinstance(answer, (Refused, TcFault)):

@@ -4,7 +4,7 @@ from __future__ import annotations
 
 import dataclasses
 from collections.abc import Iterable
-from typing import Union
+from typing import Optional, Union
 
 from .faults import BadValue, index
 from .jobs import lines
@@ -113,6 +113,7 @@ def run_streams(
     mtu: int = 1500,
     room: int = 128,
     late: bool = False,
+    seed: Optional[int] = None,
     port: Chosen = None,
 ) -> Run:
     """Runs a schedule with streams of frames from moment 0 to `until_ns`, in nanoseconds; the run has a summary.
@@ -122,13 +123,13 @@ def run_streams(
 
     A schedule with base time 0 comes into force at the start of its second cycle, and before that all gates are open: let the streams
     begin behind it. `from_ns`, in nanoseconds, is added to the offset of each stream. Each frame of a stream with a jitter comes at its
-    earliest moment, and with `late` at its latest: the program has that, and the library raises `LibraryMissing`."""
+    earliest moment, with `late` at its latest, and with a `seed`, below 2^64, at a moment and with a length that it draws."""
     chosen = backend(port)
     for name, value in (("until_ns", until_ns), ("from_ns", from_ns)):
         if index(value) is None:
             raise TypeError(f"{name} is a whole number, not {value!r}")
     until_ns, from_ns = int(until_ns), int(from_ns)
-    script = chosen.streams(_table(streams), b"" if schedule is None else lines(schedule), from_=1000 * from_ns, late=late)
+    script = chosen.streams(_table(streams), b"" if schedule is None else lines(schedule), from_=1000 * from_ns, late=late, seed=seed)
     answers = chosen.run(script, rate=rate, mtu=mtu, room=room, until=1000 * until_ns, summary=True)
     return of_answers(answers, script)
 
@@ -167,6 +168,7 @@ def bounds(
     mtu: int = 1500,
     room: int = 128,
     frames: int = 1_000_000,
+    slack: bool = False,
     port: Chosen = None,
 ) -> Bounds:
     """How long the frames of periodic streams wait under a schedule, for ever: the least and the greatest wait of each stream of a class
@@ -176,6 +178,7 @@ def bounds(
     `schedule` may also be `tc` lines, each of which is judged by itself, and `streams` a table. The offsets of the streams count from the
     moment at which the schedule comes into force, and each stream goes on for ever: its `count` is no matter, and a period of 0 raises
     `BadInput`. `rate` is in Mb/s, `mtu` in octets, `room` in frames of a class, and `frames`, 1 to 1,000,000,000, is how many frames of a
-    class are looked at, at most. What runs it is `port`, as `taprio.backend` says. Times of the answer are picoseconds."""
-    told = backend(port).bounds(_table(streams), lines(schedule), rate=rate, mtu=mtu, room=room, frames=frames)
+    class are looked at, at most. With `slack` each stream with a deadline also has the greatest jitter with which it still makes it. What
+    runs it is `port`, as `taprio.backend` says. Times of the answer are picoseconds."""
+    told = backend(port).bounds(_table(streams), lines(schedule), rate=rate, mtu=mtu, room=room, frames=frames, slack=slack)
     return read_bounds(told)

@@ -1,5 +1,6 @@
 """The jobs as calls, over the shared object and over the program: the same inputs, outputs and exceptions."""
 
+import dataclasses
 import ctypes.util
 import os
 import pathlib
@@ -401,7 +402,7 @@ class OverTheProgram(Examples, Faults, Room, Bounds, Frames, FramesByStream, Fra
             taprio.Program("/bin/false").run("")
 
     def test_late_streams(self):
-        """Each frame at its latest moment: only the program has that, and the library says so."""
+        """Each frame at its latest moment."""
         table = "stream 1 5 60 250us 10us 2 jitter 4us"
         late = b"clock 14000000\nframe 1 5 60\nclock 264000000\nframe 2 5 60\n"
         self.assertEqual(self.port.streams(table, late=True), late)
@@ -411,8 +412,39 @@ class OverTheProgram(Examples, Faults, Room, Bounds, Frames, FramesByStream, Fra
         for given, wanted in ((False, [10_000_000, 260_000_000]), (True, [14_000_000, 264_000_000])):
             run = taprio.run_streams(None, [stream], until_ns=1_000_000, late=given, port=support.PROGRAM)
             self.assertEqual([it.arrived for it in run.frames], wanted)
-        with self.assertRaisesRegex(taprio.LibraryMissing, "no call for frames that come late: call the program"):
-            taprio.library.streams(table, late=True)
+
+    def test_drawn_streams(self):
+        """Each frame as a seed draws it; not beside late ones, and no seed that isn't one of 64 bits."""
+        table = "stream 1 5 100 250us any 3 jitter 4us shortest 60"
+        drawn = self.port.streams(table, seed=7)
+        self.assertEqual(drawn, self.port.streams(table, seed=7))
+        self.assertNotEqual(drawn, self.port.streams(table, seed=8))
+        self.assertEqual(drawn.count(b"frame"), 3)
+        self.assertRaises(ValueError, self.port.streams, table, late=True, seed=7)
+        self.assertRaises(ValueError, self.port.streams, table, seed=2**64)
+        stream = taprio.Stream(1, 5, 100, 250_000, None, 3, jitter=4_000, shortest=60)
+        runs = [taprio.run_streams(None, [stream], until_ns=2_000_000, seed=it, port=support.PROGRAM) for it in (7, 7, 8)]
+        self.assertEqual(runs[0].frames, runs[1].frames)
+        self.assertNotEqual(runs[0].frames, runs[2].frames)
+
+    def test_slack(self):
+        """How much jitter a stream may have; of one that misses its deadline anyway none, and of one without a deadline nothing."""
+        schedule = taprio.Schedule([(0x80, 13_000), (0x7F, 237_000)], map=range(8))
+        streams = [
+            taprio.Stream(1, 7, 60, 250_000, 0, 1, deadline=5_000),
+            taprio.Stream(2, 7, 60, 250_000, 1_000, 1, deadline=100),
+            taprio.Stream(3, 7, 60, 250_000, 2_000, 1),
+        ]
+        told = taprio.bounds(schedule, streams, slack=True, port=support.PROGRAM).schedules[0].streams
+        self.assertEqual([it.met for it in told], [True, False, None])
+        self.assertEqual([it.slack is None for it in told], [False, True, True])
+        jittered = dataclasses.replace(streams[0], jitter=told[0].slack // 1000)
+        for more, met in ((0, True), (1, None)):
+            later = dataclasses.replace(jittered, jitter=jittered.jitter + more)
+            of = taprio.bounds(schedule, [later, *streams[1:]], port=support.PROGRAM).schedules[0].streams[0]
+            self.assertIs(bool(of.met), bool(met))
+        plain = taprio.bounds(schedule, streams, port=support.PROGRAM).schedules[0].streams
+        self.assertEqual([dataclasses.replace(it, slack=None) for it in told], list(plain))
 
 
 class WithoutALibrary(unittest.TestCase):

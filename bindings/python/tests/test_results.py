@@ -417,6 +417,7 @@ bound 5 class 6 none deadline 10 missed
                 "dropped": None,
                 "deadline": 1000,
                 "met": True,
+                "slack": None,
             },
         )
 
