@@ -5,6 +5,8 @@ import { count } from "./words.js";
 
 const BOUND = /^bound (\d+) (?:class (\d) )?(?:(wait|within) (\d+) to (\d+) end (\d+) to (\d+)|(none|unknown)|dropped (\w+))(?: deadline (\d+) (met|missed|unknown))?$/;
 
+const SLACK = /^slack (\d+) (?:none|jitter (\d+))$/;
+
 /**
  * The streams of each schedule that a run of bounds tells of.
  *
@@ -16,6 +18,9 @@ export function boundsIn(answers) {
   for (const line of answers.split("\n")) {
     if (/^(?:apart|refused|tc-fault)\b/.test(line)) found.push({ apart: line, classes: [], streams: [] });
     else if (line.startsWith("class ")) found.at(-1)?.classes.push(line);
+    const slack = SLACK.exec(line);
+    const of = found.at(-1)?.streams.at(-1);
+    if (slack && of?.id === slack[1]) of.slack = slack[2] === undefined ? "none" : BigInt(slack[2]);
     const it = BOUND.exec(line);
     if (!it) continue;
     const [, id, kind, how, least, greatest, first, last, word, dropped, deadline, verdict] = it;
@@ -24,7 +29,7 @@ export function boundsIn(answers) {
       id, class: kind === undefined ? null : Number(kind), least: time(least), greatest: time(greatest), first: time(first), last: time(last),
       told: dropped ? `dropped: ${dropped}` : word === "none" ? "no bound" : word === "unknown" ? "not known" : how === "within" ? "bounded, whenever its frames come" : "bounded",
       within: how === "within",
-      deadline: time(deadline), verdict: verdict ?? "", tone: verdict === "missed" ? "bad" : verdict === "unknown" ? "doubt" : "",
+      slack: null, deadline: time(deadline), verdict: verdict ?? "", tone: verdict === "missed" ? "bad" : verdict === "unknown" ? "doubt" : "",
     });
   }
   return found;

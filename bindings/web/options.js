@@ -3,15 +3,17 @@ import { wordOfMoment } from "./moments.js";
 
 const NUMBERS = ["rate", "mtu", "room", "frames"];
 const MOMENTS = ["until", "from", "to"];
-const FLAGS = ["summary", "windows"];
+const FLAGS = ["summary", "windows", "late", "slack"];
+const SEED = "seed";
 const GREATEST_NUMBER = 2 ** 32 - 1;
+const GREATEST_SEED = 2n ** 64n - 1n;
 const USED = {
   script: ["rate", "mtu", "room", "until", "summary"],
   draw: ["rate", "mtu", "room", "from", "to"],
   replay: ["rate", "mtu", "room", "until", "summary"],
-  bounds: ["rate", "mtu", "room", "frames"],
+  bounds: ["rate", "mtu", "room", "frames", "slack"],
   check: ["rate", "windows"],
-  streams: [],
+  streams: ["late", "seed"],
 };
 
 /** A value that can't be read, or that lacks. */
@@ -34,6 +36,14 @@ function readNumber(name) {
   return Number(words);
 }
 
+// What draws the frames of streams; null where nothing does. It doesn't stand beside frames that come late.
+function readSeed() {
+  const words = inputOf(SEED).value.trim();
+  if (words === "") return null;
+  if (!/^\d{1,20}$/.test(words) || BigInt(words) > GREATEST_SEED || inputOf("late").checked) throw new BadOption(SEED);
+  return BigInt(words);
+}
+
 /**
  * The moments that stand in fields, as the port reads them.
  *
@@ -53,7 +63,7 @@ export async function momentsIn(names, read) {
 }
 
 // The values where nothing is said.
-const standing = () => ({ rate: 1000, mtu: 1500, room: 128, frames: 1000000, width: 1200, until: null, from: null, to: null, summary: false, windows: false });
+const standing = () => ({ rate: 1000, mtu: 1500, room: 128, frames: 1000000, width: 1200, until: null, from: null, to: null, summary: false, windows: false, late: false, slack: false, seed: null });
 
 /**
  * The values of the options that a job has, as they stand now; the others are the program's where no words are given.
@@ -67,6 +77,7 @@ export async function valuesFor(job, read) {
   for (const name of USED[job]) {
     if (NUMBERS.includes(name)) values[name] = readNumber(name);
     else if (FLAGS.includes(name)) values[name] = inputOf(name).checked;
+    else if (name === SEED) values[name] = readSeed();
   }
   const names = USED[job].filter((name) => MOMENTS.includes(name));
   const moments = await momentsIn(names, read);
@@ -77,7 +88,7 @@ export async function valuesFor(job, read) {
 /** The options that are not as they stand at first, as words. */
 export function wordsOfOptions() {
   const words = {};
-  for (const name of [...NUMBERS, ...MOMENTS]) {
+  for (const name of [...NUMBERS, ...MOMENTS, SEED]) {
     const input = inputOf(name);
     if (input.value !== String(standing()[name] ?? "")) words[name] = input.value;
   }
@@ -87,7 +98,7 @@ export function wordsOfOptions() {
 
 /** Sets all options by words; those without a word stand as at first. */
 export function setOptions(words) {
-  for (const name of [...NUMBERS, ...MOMENTS]) inputOf(name).value = words[name] ?? String(standing()[name] ?? "");
+  for (const name of [...NUMBERS, ...MOMENTS, SEED]) inputOf(name).value = words[name] ?? String(standing()[name] ?? "");
   if (inputOf("rate").value === "") inputOf("rate").value = "1000";
   for (const name of FLAGS) inputOf(name).checked = words[name] === "1";
 }

@@ -118,6 +118,7 @@ const BOUND_COLUMNS = [
   ["id", "Stream", "number"], ["class", "Class", "number"], ["least", "Least wait", "time"], ["greatest", "Greatest wait", "time"],
   ["first", "Earliest end", "time"], ["last", "Latest end", "time"], ["deadline", "Deadline", "time"], ["verdict", "Verdict", "text"], ["told", "", "text"],
 ];
+const SLACK_COLUMNS = BOUND_COLUMNS.toSpliced(-1, 0, ["slack", "Jitter it may have", "measure"]);
 const FRAME_COLUMNS = [
   ["id", "Frame", "number"], ["class", "Class", "number"], ["length", "Octets", "number"], ["arrival", "Arrives", "moment"], ["start", "Starts", "moment"],
   ["end", "Ends", "moment"], ["wait", "Waits", "time"], ["fate", "Fate", "text"],
@@ -131,6 +132,7 @@ const tables = {
   streams: new Table(at("classes"), columns(CLASS_COLUMNS), HOW),
   check: new Table(at("classes"), columns(WINDOW_COLUMNS), HOW),
   bounds: new Table(at("classes"), columns(BOUND_COLUMNS), HOW),
+  slack: new Table(at("classes"), columns(SLACK_COLUMNS), HOW),
 };
 const differenceTable = new Table(at("differences"), columns(DIFFERENCE_COLUMNS), HOW);
 const frameTable = new Table(at("frames-table"), columns(FRAME_COLUMNS), { ...HOW, choose: (frame) => chooseFrame(frame, true) });
@@ -473,8 +475,9 @@ function showTables() {
   at("classes").hidden = !rows.length;
   at("save-table").hidden = !rows.length;
   if (rows.length) {
-    tables[ran.job].show(rows);
-    addressOf(at("save-table"), encoded(tables[ran.job].csv), "text/csv");
+    const table = tables[ran.job === "bounds" && ran.values.slack ? "slack" : ran.job];
+    table.show(rows);
+    addressOf(at("save-table"), encoded(table.csv), "text/csv");
   }
   showDifferences();
   at("frames-box").hidden = !ran.frames.length;

@@ -121,14 +121,28 @@ const framesCall = ({ beside }) =>
     ? ["taprio_frames_by_stream", (at, { input }) => [at.port, at.beside, beside.length, at.input, input.length]]
     : ["taprio_frames", (at, { input }) => [at.port, at.input, input.length]];
 
+// The script of a table of streams: each frame at its earliest, at its latest, or as a seed draws it; offsets count from 0.
+function streamsCall({ values }) {
+  const slices = (at, { input, beside }) => [at.input, input.length, at.beside, beside.length];
+  if (values.seed !== null) return ["taprio_streams_drawn", (at, request) => [values.seed, 0, 0, ...slices(at, request)]];
+  return values.late ? ["taprio_streams_late", (at, request) => [0, 0, ...slices(at, request)]] : ["taprio_streams", slices];
+}
+
+// Bounds, with the jitter that streams may have where it is asked.
+const boundsCall = ({ values }) => [
+  values.slack ? "taprio_bounds_slack" : "taprio_bounds",
+  (at, { input, beside }) => [at.port, values.frames, at.beside, beside.length, at.input, input.length],
+];
+
 // What each job calls, and the words of the call before its outputs; a slice is its address and its length.
 const CALLS = {
   script: ["taprio_run", (at, { input }) => [at.port, at.input, input.length]],
   draw: ["taprio_draw", (at, { input }) => [at.port, at.picture, at.input, input.length]],
-  streams: ["taprio_streams", (at, { input, beside }) => [at.input, input.length, at.beside, beside.length]],
-  bounds: ["taprio_bounds", (at, { input, beside, values }) => [at.port, values.frames, at.beside, beside.length, at.input, input.length]],
   replay: ["taprio_replay", (at, { input, beside }) => [at.port, at.input, input.length, at.beside, beside.length]],
 };
+
+// The jobs whose call depends on what is asked.
+const CHOSEN = { frames: framesCall, streams: streamsCall, bounds: boundsCall };
 
 // What each job fills, in the order of the lengths that are told: a replay has two outputs.
 const filled = (job) => (job === "replay" ? ["output", "departures", "fault"] : ["output", "fault"]);
@@ -142,7 +156,7 @@ function call(exports, at, request, lengths) {
     exports.taprio_check(rate, windows ? 1 : 0, BigInt(at.input), BigInt(request.input.length), ...ends);
     return;
   }
-  const [name, words] = request.job === "frames" ? framesCall(request) : CALLS[request.job];
+  const [name, words] = CHOSEN[request.job]?.(request) ?? CALLS[request.job];
   exports[name](...words(at, request).map(BigInt), ...ends);
 }
 

@@ -3,6 +3,7 @@
 
 With names, such as `gates`, only those functions try_NAME are run. TAPRIO_PAGE names another page than bindings/web/taprio.html."""
 import base64
+import csv
 import functools
 import http.server
 import json
@@ -871,6 +872,48 @@ def sides(page, what, text, alone):
     # (the lower one has the legend of both)
     bars = [len(re.findall(rb'<rect class="f[ "]', it)) for it in (one, other)]
     page.same(f"bars of {what}", page.do("return ['canvas', 'other-canvas'].map((it) => at(it).querySelectorAll('rect.f').length + Number(at(it).querySelector('svg').dataset.shaded))"), [bars[0] - 1, bars[1]])
+
+
+# A table whose frames may come at several moments, with several lengths; and one of bounds with deadlines.
+DRAWN = "stream 1 5 100 250us 10us 3 shortest 60 jitter 40us\nstream 10 7 200 1ms any 2 jitter 1us\n"
+DUE = "stream 1 7 60 250us 20us 1 jitter 5us deadline 300us\nstream 10 7 60 250us 0us 1 deadline 1us\nstream 20 7 60 250us 0us 1\n"
+
+
+def try_timing(page):
+    """Frames of streams at their latest moments, and as a number draws them; and how much jitter streams may have: against the program."""
+    page.choose("planned.streams")
+    page.set("beside", "")
+    page.set("text", DRAWN)
+    for field, value, words in (("late", None, ["--late"]), ("seed", "7", ["--seed", "7"]), ("seed", "18446744073709551615", ["--seed", "18446744073709551615"])):
+        if value is None:
+            page.do(f"at('{field}').checked = true")
+        else:
+            page.do("at('late').checked = false")
+            page.set(field, value)
+        page.run()
+        page.answers(f"streams with {' '.join(words)}", program("streams", *words, text=DRAWN.encode())[1])
+    for value, late in (("18446744073709551616", False), ("x", False), ("7", True)):
+        page.set("seed", value)
+        page.do(f"at('late').checked = {'true' if late else 'false'}")
+        page.run()
+        page.same(f"seed {value}, {late}", page.text("fault-text")[:27], "bad value of --seed: wanted")
+    page.set("seed", "")
+    page.do("at('late').checked = false")
+    page.choose("drive.bounds")
+    schedule = page.do("return at('text').value")
+    page.set("beside", DUE)
+    page.do("at('slack').checked = true")
+    page.run()
+    with tempfile.NamedTemporaryFile() as table:
+        table.write(DUE.encode())
+        table.flush()
+        wanted = program("bounds", "--slack", table.name, text=schedule.encode())[1]
+    page.answers("slack", wanted)
+    jitter = int(re.search(rb"^slack 1 jitter (\d+)$", wanted, re.MULTILINE)[1])
+    saved = list(csv.reader(page.saved("save-table").decode().splitlines()))
+    page.same("columns of slack", saved[0][-2:], ["slack", "told"])
+    page.same("cells of slack", [row[-2] for row in saved[1:]], [str(jitter), "none", ""])
+    page.do("at('slack').checked = false")
 
 
 def try_compare(page):
@@ -1866,7 +1909,7 @@ def try_looks(page):
     shoot(page, "replay")
 
 
-TRIES = [try_examples, try_replay, try_typing, try_options, try_worked, try_faults, try_refused, try_zoom, try_keys, try_micros, try_moments, try_frames, try_reasons, try_why, try_drops, try_tips, try_marks, try_pictures, try_rows, try_shades, try_whole, try_bounds, try_compare, try_gates, try_imports,
+TRIES = [try_examples, try_replay, try_typing, try_options, try_worked, try_faults, try_refused, try_zoom, try_keys, try_micros, try_moments, try_frames, try_reasons, try_why, try_drops, try_tips, try_marks, try_pictures, try_rows, try_shades, try_whole, try_bounds, try_timing, try_compare, try_gates, try_imports,
          try_story, try_tabs, try_kept, try_long, try_files, try_forgotten, try_dates, try_stale, try_live, try_link, try_stop, try_access, try_screens, try_sizes, try_looks]
 
 
