@@ -5,6 +5,8 @@ No frame starts later than its bound, counted from its arrival, or of a known of
 and none is dropped. Where all frames of a class have one length and come whenever they like, a run reaches the bound: all talkers begin at the moment
 that is just too late for some frames to be sent before the end of a window."""
 import collections
+import math
+import os
 import random
 import tempfile
 
@@ -12,6 +14,9 @@ import bounds_agree
 from bounds_agree import LENGTHS, UNITS, lines_of, masks, parts
 
 CASES = 250
+# (200 of them were tried once, by hand)
+WINDOW_CASES = int(os.environ.get("TAPRIO_WINDOWS", "30"))
+SEEDS = int(os.environ.get("TAPRIO_SEEDS", "1"))
 FRAMES = 400
 PERIODS = [20, 25, 40, 50, 60, 100, 120]
 CYCLES = [20, 30, 40, 50, 60]
@@ -47,12 +52,12 @@ def need(world, octets):
     return (max(octets, 60) + 24) * 8 * 10**6 // world.rate
 
 
-def table(world):
+def table(world, count=1):
     """The lines of the table."""
     lines = []
     for it in world.streams:
         offset = "any" if it.offset is None else f"{it.offset}ps"
-        lines.append(f"stream {it.first_id} {it.priority} {it.len} {it.period}ps {offset} 1 jitter {it.jitter}ps shortest {it.shortest}\n")
+        lines.append(f"stream {it.first_id} {it.priority} {it.len} {it.period}ps {offset} {count} jitter {it.jitter}ps shortest {it.shortest}\n")
     return "".join(lines).encode()
 
 
@@ -86,9 +91,21 @@ def comes(chance, world, begin, count):
     return [of(it) for it in world.streams]
 
 
-def run(program, world, frames, flood, folder):
-    """A run of these frames, beside full frames of other classes."""
-    arrivals = sorted((world.change + moment, place, identity, octets) for place, of in enumerate(frames) for moment, identity, octets in of)
+def drawn(program, world, count, words, folder):
+    """The same as `streams` makes them with these words."""
+    script = lines_of(program, ["streams", *words], table(world, count), folder).decode()
+    frames, now = [[] for _ in world.streams], 0
+    for said in map(str.split, script.splitlines()):
+        if said[0] == "clock":
+            now = int(said[1])
+        else:
+            frames[int(said[1]) // 10**6 - 1].append((now, int(said[1]), int(said[3])))
+    return frames
+
+
+def run(program, world, frames, flood, folder, behind=None):
+    """A run of these frames, beside full frames of other classes. At one moment they come in the order of the streams, but this one comes last."""
+    arrivals = sorted((world.change + moment, 98 if identity == behind else place, identity, octets) for place, of in enumerate(frames) for moment, identity, octets in of)
     end = max(moment for moment, *_ in arrivals) + 60 * world.cycle
     busy = {it.priority for it in world.streams}
     others = [number for number in range(world.classes) if number not in busy] if flood else []
@@ -99,7 +116,7 @@ def run(program, world, frames, flood, folder):
         if moment != now:
             lines.append(f"clock {moment}\n")
             now = moment
-        priority = world.streams[place].priority if place < 99 else (identity - 10**9) // 10**6
+        priority = world.streams[identity // 10**6 - 1].priority if place < 99 else (identity - 10**9) // 10**6
         lines.append(f"frame {identity} {priority} {octets}\n")
     answers = lines_of(program, ["script", "--summary", "--rate", str(world.rate), "--until", str(end)], "".join(lines).encode(), folder).decode().splitlines()
     starts = {int(said[1]): int(said[5]) for said in map(str.split, answers) if said[0] == "start"}
@@ -114,7 +131,7 @@ def holds(world, classes, bounds, frames, ran):
     longest = collections.defaultdict(int)
     for place, it in enumerate(world.streams):
         said = bounds[place]
-        if said[2] != "within":
+        if said[2] != "within" or not frames[place]:
             continue
         most = classes[it.priority]
         assert int(summary[it.priority]["most"]) <= int(most[2]), (it, most, summary[it.priority])
@@ -151,6 +168,64 @@ def reaches(program, world, classes, bounds, number, folder):
     assert longest == int(bounds[own[0]][5]), (number, longest, bounds[own[0]])
 
 
+def with_windows(world, seed):
+    """The same world, where each offset is known, and all frames have one length."""
+    chance = random.Random(seed)
+    octets, unit = chance.choice(LENGTHS), UNITS[world.rate]
+    streams = [it._replace(len=octets, shortest=octets, offset=chance.randint(0, 60) * unit) for it in world.streams]
+    return world._replace(streams=streams)
+
+
+def looked_at(world, own):
+    """How many frames of each stream of a class are enough: those up to when all have begun, and then those of a time after which all repeats."""
+    streams = [world.streams[place] for place in own]
+    end = max(it.offset + it.jitter for it in streams) + math.lcm(world.cycle, *(it.period for it in streams))
+    return {place: (end - world.streams[place].offset) // world.streams[place].period + 1 for place in own}
+
+
+def pressing(world, counts, place, number):
+    """The run that delays a frame the most: it comes at its latest, and each that can have come by then comes then or at its own latest, before it."""
+    it = world.streams[place]
+    latest = it.offset + number * it.period + it.jitter
+    frames = [[] for _ in world.streams]
+    for other, count in counts.items():
+        of = world.streams[other]
+        for at in range(count):
+            earliest = of.offset + at * of.period
+            comes_at = min(earliest + of.jitter, latest) if earliest <= latest else earliest + of.jitter
+            frames[other].append((comes_at, of.first_id + at, of.len))
+    return frames
+
+
+def reaches_windows(program, seed, folder):
+    """Each bound of a class of windows is the wait of some frame in some run, and no run exceeds it. How many streams were tried."""
+    it = with_windows(world(seed), seed)
+    classes, bounds = told(program, it, folder)
+    tried = 0
+    for number, said in classes.items():
+        own = [place for place, stream in enumerate(it.streams) if stream.priority == number]
+        if said[0] != "within" or int(said[2]) > 128:
+            continue
+        counts = looked_at(it, own)
+        for place in own:
+            stream, longest = it.streams[place], 0
+            for at in range(counts[place]):
+                frames, identity = pressing(it, counts, place, at), stream.first_id + at
+                ran = run(program, it, frames, False, folder, identity)
+                holds(it, classes, bounds, frames, ran)
+                longest = max(longest, ran[0][identity] - it.change - stream.offset - at * stream.period)
+            assert longest == int(bounds[place][5]), (seed, place, longest, bounds[place])
+            tried += 1
+    return tried
+
+
+def case_a_frame_is_as_late_as_its_window_lets_it(program):
+    """The worst that is told of windows with one length does happen, so `missed` is no guess."""
+    with tempfile.TemporaryDirectory(prefix="taprio-late-") as folder:
+        tried = sum(reaches_windows(program, seed, folder) for seed in range(0, WINDOW_CASES))
+    assert tried > 10, tried
+
+
 def agrees(program, seed, folder):
     """A case; and what is told of its classes."""
     it, chance = world(seed), random.Random(seed)
@@ -161,6 +236,10 @@ def agrees(program, seed, folder):
     for flood in (False, True):
         frames = comes(chance, it, chance.randint(0, it.cycle), 30)
         holds(it, classes, bounds, frames, run(program, it, frames, flood, folder))
+    drawings = [["--late"], *(["--seed", str(number)] for number in range(SEEDS))] if SEEDS > 1 or seed % 4 == 1 else []
+    for words in drawings:
+        frames = drawn(program, it, 30, words, folder)
+        holds(it, classes, bounds, frames, run(program, it, frames, False, folder))
     for number, said in classes.items():
         own = [stream for stream in it.streams if stream.priority == number]
         alike = all(stream.offset is None and stream.len == stream.shortest == own[0].len for stream in own)

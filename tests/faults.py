@@ -118,6 +118,7 @@ HELPED = {
     "ValueKind::Frames": (bounds(STREAM, b"", "--frames", "0"), "--frames is a whole number from 1"),
     "ValueKind::Until": (replay(HEADER, "--until", "4294967297s"), "--until is picoseconds"),
     "ValueKind::Stamp": (replay(HEADER, "--stamp", "last"), "--stamp is start or end"),
+    "ValueKind::Seed": ((["streams", "--seed", "x"], b"", {}), "--seed is a whole number from 0"),
     "ValueKind::From": ((["streams", "--from", "1min"], b"", {}), "--from is picoseconds"),
     "ValueKind::To": ((["draw", "--from", "1", "--to", "1"], b"", {}), "--to is picoseconds"),
     "ValueKind::Width": ((["draw", "--width", "399"], b"", {}), "--width is a whole number of pixels"),
