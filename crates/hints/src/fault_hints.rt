@@ -46,6 +46,8 @@ fn value_text(kind: ValueKind) -> &'static [u8] {
             b"--map is 1 to 16 classes from 0 to 7 in one word, those of the priorities from 0 up: --map \"0 1 2\"",
         ValueKind::Frame => b"--frame is a whole number of octets from 0 to 4294967295",
         ValueKind::Frames => b"--frames is a whole number from 1 to 1000000000",
+        ValueKind::Silent =>
+            b"--silent is classes from 0 to 7, each once, with commas: --silent 6,7",
         ValueKind::Until =>
             b"--until is picoseconds, or a number with its unit such as 2ms, at most 9223372036854775807000 ps; of a replay 4294967296 s",
         ValueKind::Stamp => b"--stamp is start or end",

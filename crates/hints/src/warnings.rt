@@ -4,7 +4,7 @@ use crate::marks::{Hint, put_hint, span_at};
 use abstract_port::Dropped;
 use answer_text::{Part, WriteFault, dropped_name, put_parts};
 use octet_writer::put;
-use script::{Basis, Missed};
+use script::{Basis, Missed, Sharers};
 use std::io::Write;
 
 /// The ids of the frames of a stream, and the number of its line in a table.
@@ -161,6 +161,26 @@ pub fn put_busy_class<W: Write>(
     )
 }
 
+/// Writes with which classes a class shares windows, and what may be in its way.
+fn put_sharers<W: Write>(writer: &mut W, sharers: Sharers) -> Result<(), WriteFault> {
+    put(writer, b" beside")?;
+    for class in 0..8u8 {
+        if sharers.classes[class as usize] {
+            put_parts(writer, &[Part::Text(b" "), Part::Number(u128::from(class))])?;
+        }
+    }
+    put_parts(
+        writer,
+        &[
+            Part::Text(b", first in entry "),
+            Part::Number(u128::from(sharers.entry)),
+            Part::Text(b"\n    a frame of another class may be in its way for "),
+            Part::Number(sharers.blocking),
+            Part::Text(b"\n"),
+        ],
+    )
+}
+
 /// For which frames the bounds of a class are found, and the premise that is the weakest.
 fn put_premise<W: Write>(writer: &mut W, basis: Basis) -> Result<(), WriteFault> {
     match basis {
@@ -186,6 +206,7 @@ fn put_premise<W: Write>(writer: &mut W, basis: Basis) -> Result<(), WriteFault>
             writer,
             b" for any moments, since its windows come again after more frames than --frames\n    with more --frames its bounds may be lower\n",
         ),
+        Basis::Shared(sharers) => put_sharers(writer, sharers),
     }
 }
 

@@ -92,6 +92,8 @@ pub enum ValueKind {
     Frame,
     /// `bad value of --frames`.
     Frames,
+    /// `bad value of --silent`.
+    Silent,
     /// `bad value of --until`.
     Until,
     /// `bad value of --stamp`.

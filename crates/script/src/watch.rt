@@ -29,6 +29,17 @@ pub enum Missed {
     Left,
 }
 
+/// With which classes a class shares windows.
+#[derive(Clone, Copy, Debug, PartialEq, Eq)]
+pub struct Sharers {
+    /// Of each class whether it is one.
+    pub classes: [bool; 8],
+    /// Which entry of the list, from 1, is the first that opens the class and one of these.
+    pub entry: u32,
+    /// For how long a frame of another class may be in the way, in picoseconds.
+    pub blocking: u128,
+}
+
 /// By what the bounds of a class are found.
 #[derive(Clone, Copy, Debug, PartialEq, Eq)]
 pub enum Basis {
@@ -41,6 +52,8 @@ pub enum Basis {
     /// Each frame comes in a window, but these come again only after more frames than are looked at: it is bounded as if
     /// frames came at any moments.
     ManyFrames,
+    /// Frames come at any moments, and wait for those of the classes that share windows with theirs.
+    Shared(Sharers),
 }
 
 /// Who watches a run. Nothing that it does changes what is written.
