@@ -3,13 +3,10 @@ use Rattle.std.proofs.Common.{◌≡◌, ◌<◌, ◌≤◌, ℕ, zero, suc, ◌
 use Rattle.std.proofs.lemmas.Option.{slice_get-map}
 use Rattle.gate_list.specs.Gate.{Plan, in_ps}
 use Rattle.abstract_port.specs.AbstractPort.{new_port, plan_asked}
-use Rattle.abstract_port.specs.declared.Change.{Change}
 use Rattle.abstract_port.specs.declared.Event.{Event}
-use Rattle.abstract_port.specs.declared.Start.{Start}
 use Rattle.abstract_port.proofs.RunLaws.{accepted_plan, has_cycle}
 use Rattle.separation.specs.Served.{IsFirst}
 use Rattle.separation.specs.Traffic.{Came}
-use Rattle.delay_bounds.specs.Claim.{IsRun}
 use Rattle.delay_bounds.specs.Walk.{may_by}
 use Rattle.delay_bounds.specs.declared.Bound.{Bound}
 use Rattle.delay_bounds.proofs.GateLaws.{by_repeats}
@@ -23,13 +20,9 @@ use Rattle.any_traffic.specs.ExactWindows.{at_earliest}
 use Rattle.any_traffic.specs.LateForEver.{IsStreamFrame}
 use Rattle.any_traffic.specs.PeriodicWindows.{ArePeriodic, ComeByFlows, PeriodicFlow, window_of}
 use Rattle.any_traffic.specs.Runs.{IsApartRun, left, offered, queued}
-use Rattle.any_traffic.specs.Sporadic.{curve_of_all}
-use Rattle.any_traffic.specs.WindowCurve.{without_offset}
-use Rattle.burst_bounds.specs.Least.{AreLeast as IsLeastBurst}
-use Rattle.window_bounds.specs.Least.{AreLeast as AreLeastWindows, IsLeastWait, greatest_of}
-use Rattle.premises.specs.Runs.{CanCome}
+use Rattle.window_bounds.specs.Least.{AreLeast as AreLeastWindows, greatest_of}
 use Rattle.premises.proofs.RunsExist.{runs_exist}
-use Rattle.late_claim.specs.LateClaim.{AreFlows, CurveClaim, IsCurveRun, IsWindowRun, KeepWindowBounds, LateRunsExist, WindowClaim}
+use Rattle.late_claim.specs.LateClaim.{CurveClaim, IsWindowRun, KeepWindowBounds, LateRunsExist, WindowClaim}
 
 at_least : (c p : ℕ) → 0 < c → p ≤ c * p
 at_least c zero above = omega arith

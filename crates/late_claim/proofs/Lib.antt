@@ -1,1 +1,6 @@
 mod ClaimLaws
+mod PairCounts
+mod LateStarts
+mod ReachedLaws
+mod FrameLines
+mod ReachedRuns

@@ -4,7 +4,7 @@
 -- A run is any list of events on a new port: frames of all classes, clocks, commands and questions (IEEE Std 802.1Q-2018, 8.6.8.4 and
 -- 8.6.9). One schedule is accepted, and no other command; it keeps the class apart, and is in force when the first frame of the class comes
 -- (`IsApartRun`). Of the other classes nothing is asked. Times are in picoseconds, and moments of flows count from the change moment.
-use Rattle.std.specs.Prelude.{◌≡◌, ◌<◌, ◌≤◌, ℕ, ◌+◌, List, map, length, slice_get, Some}
+use Rattle.std.specs.Prelude.{◌≡◌, ◌<◌, ◌≤◌, ℕ, ◌+◌, List, map, slice_get, Some}
 use Rattle.gate_list.specs.Gate.{Plan}
 use Rattle.list_config.specs.History.{Accepted}
 use Rattle.abstract_port.specs.AbstractPort.{plan_asked}

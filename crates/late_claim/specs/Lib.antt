@@ -1,1 +1,2 @@
 pub mod LateClaim
+pub mod WindowsReached

@@ -5,6 +5,7 @@
 #![tactic(auto)]
 
 ghost use Rattle.late_claim.specs.LateClaim.{CurveClaim, LateRunsExist, WindowClaim};
+ghost use Rattle.late_claim.specs.WindowsReached.{GreatestReachedLaw, GreatestRunsExist, WindowsReachedLaw};
 
 /// The claim of windows, the claim of any moments, and that there are runs of which both speak: for each schedule that a
 /// new port accepts and that keeps the class apart, all flows whose longest frames the port takes into the class, and as
@@ -13,4 +14,13 @@ pub fn claims()
     ensures windows { WindowClaim }
     ensures any_moments { CurveClaim }
     ensures runs { LateRunsExist }
+{}
+
+/// A bound of windows is reached, where all frames have one length: a frame that a run delays the most starts exactly at
+/// its late start, so that the greatest time of each flow is one of its frames', and such runs exist as far as a port's
+/// clock goes.
+pub fn reached()
+    ensures always { WindowsReachedLaw }
+    ensures greatest { GreatestReachedLaw }
+    ensures runs { GreatestRunsExist }
 {}
