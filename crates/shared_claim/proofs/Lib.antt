@@ -1,0 +1,6 @@
+mod SetupLaws
+mod OtherLaws
+mod ClaimLaws
+mod RunLaws
+mod WindowBounds
+mod Example

@@ -1,0 +1,3 @@
+pub mod SharedClaim
+pub mod OtherClasses
+pub mod SharedPremises
