@@ -1,6 +1,6 @@
 -- What is reported of an accepted schedule.
 use Rattle.std.proofs.Common.{◌≡◌, ◌<◌, ◌++◌, ℕ, Bool, List, Option, Some, None, Ok, refl, sym, ap, ◌∙◌}
-use Rattle.schedule_check.specs.Words.{PlanFault, Plan, Window, ok_unless, plan_fault, plan_asked, apart_line, change_lines, class_count, class_line, classes_apart, asked_lines, told_line, waits_text, IsTeller, IsWindow, Teller}
+use Rattle.schedule_check.specs.Words.{PlanFault, Plan, Window, ok_unless, plan_fault, plan_asked, apart_line, change_lines, class_count, class_line, classes_apart, asked_lines, sharing_line, told_line, waits_text, IsTeller, IsWindow, Teller}
 use Rattle.abstract_port.specs.declared.Change.{Change}
 use Rattle.schedule_check.specs.Apart.{schedule_lines}
 use Rattle.schedule_check.specs.Refusals.{is_led, map_after}
@@ -12,10 +12,11 @@ pub made_without_fault : (fault : Option PlanFault) (asked made : Plan) → ok_u
 made_without_fault None asked made is = (refl, let same : asked ≡ made = cc in sym same)
 made_without_fault (Some fault) asked made is = absurd (let no : ⊥ = cc in no)
 
--- the two parts of what is reported
+-- the three parts of what is reported
 pub told_parts : (tell : Teller) (s : CheckSettings) (c : Change) → plan_fault s.rate (plan_asked c) ≡ None
     → change_lines tell s c ≡ apart_line (classes_apart (class_count (map_after s.map c.map)) 0 (plan_asked c).entries)
-    ++ asked_lines s.windows (class_line s c (tell s.rate (plan_asked c))) (class_count (map_after s.map c.map))
+    ++ (asked_lines s.shares (sharing_line (plan_asked c) (class_count (map_after s.map c.map))) (class_count (map_after s.map c.map))
+    ++ asked_lines s.windows (class_line s c (tell s.rate (plan_asked c))) (class_count (map_after s.map c.map)))
 told_parts tell s c none = ap (λ (fault : Option PlanFault). schedule_lines fault s (tell s.rate (plan_asked c)) c) none
 
 -- what is written of a class is its line

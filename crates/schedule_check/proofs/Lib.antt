@@ -6,5 +6,6 @@ pub mod MapLaws
 pub mod OpenLineLaws
 pub mod WindowLaws
 pub mod ShareLaws
+pub mod SharingLaws
 pub mod TellLaws
 pub mod TurnLaws

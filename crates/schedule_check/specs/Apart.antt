@@ -1,5 +1,5 @@
--- What is reported of a schedule command: the classes that its schedule keeps apart from all others, and what it gives each class.
-use Rattle.std.specs.Prelude.{◌+◌, List, ℕ, zero, suc, [], ◌∷◌, ◌++◌, Option, Some, None, Result, Ok, Err, decimal, codes, if◌then◌else◌}
+-- What is reported of a schedule command: the classes that its schedule keeps apart from all others, those that share windows, and what it gives each class.
+use Rattle.std.specs.Prelude.{◌+◌, List, ℕ, zero, suc, [], ◌∷◌, ◌++◌, Option, Some, None, Result, Ok, Err, codes, if◌then◌else◌}
 use Rattle.std.specs.List.{concat, flat_map}
 use Rattle.wire_time.specs.declared.TheConstants.{CLASSES}
 use Rattle.class_map.specs.declared.ClassMap.{ClassMap}
@@ -14,6 +14,7 @@ use Rattle.abstract_port.specs.declared.Refused.TheVariants.{Schedule}
 use Rattle.tc_reader.specs.declared.fault.TcFault.{TcFault}
 use Rattle.answer_text.specs.Lines.{refused_line, tc_fault_line}
 use Rattle.schedule_check.specs.Refusals.{is_led, map_after}
+use Rattle.schedule_check.specs.Shares.{class_word, sharing_line}
 use Rattle.schedule_check.specs.WindowLines.{asked_lines, told_line, waits_text}
 use Rattle.schedule_check.specs.declared.settings.CheckSettings.{CheckSettings}
 use Rattle.schedule_check.specs.Windows.{Teller}
@@ -33,10 +34,6 @@ unfoldable pub classes_apart : ℕ → ℕ → List Entry → List ℕ
 classes_apart zero class entries = []
 classes_apart (suc n) class entries = itself_apart class entries ++ classes_apart n (class + 1) entries
 
--- a space and the number of a class
-abbrev pub class_word : ℕ → List ℕ
-class_word class = concat (codes " " ∷ decimal class ∷ [])
-
 -- the line of some classes
 abbrev pub some_line : List ℕ → List ℕ
 some_line classes = concat (codes "apart" ∷ flat_map class_word classes ∷ codes "\n" ∷ [])
@@ -50,20 +47,21 @@ apart_line (class ∷ classes) = some_line (class ∷ classes)
 abbrev pub class_line : CheckSettings → Change → (ℕ → Window) → ℕ → List ℕ
 class_line s c tell class = told_line (is_led (map_after s.map c.map) class) class (tell class) (waits_text s.rate (plan_asked c) class s.frame (tell class).longest_frame)
 
--- The lines of a change by settings: the refusal of its schedule; or the classes that it keeps apart and, where windows are asked for, what it gives
--- each class. The classes are those of the map that the port then has, or all where that isn't known.
+-- The lines of a change by settings: the refusal of its schedule; or the classes that it keeps apart and, where they are asked for, for each class those
+-- that share windows with it, and what the schedule gives each class. The classes are those of the map that the port then has, or all where that isn't known.
 abbrev pub schedule_lines : Option PlanFault → CheckSettings → (ℕ → Window) → Change → List ℕ
 schedule_lines (Some fault) s tell c = refused_line (Schedule fault)
 schedule_lines None s tell c =
     apart_line (classes_apart (class_count (map_after s.map c.map)) 0 (plan_asked c).entries)
-    ++ asked_lines s.windows (class_line s c tell) (class_count (map_after s.map c.map))
+    ++ (asked_lines s.shares (sharing_line (plan_asked c) (class_count (map_after s.map c.map))) (class_count (map_after s.map c.map))
+    ++ asked_lines s.windows (class_line s c tell) (class_count (map_after s.map c.map)))
 
 -- the lines of a change by settings, with the function that says what a plan gives each class
 abbrev pub change_lines : Teller → CheckSettings → Change → List ℕ
 change_lines tell s c = schedule_lines (plan_fault s.rate (plan_asked c)) s (tell s.rate (plan_asked c)) c
 
--- What is reported of a line that begins with tc: it is no command, or what is reported of the command. A deletion keeps nothing apart, and has
--- no windows.
+-- What is reported of a line that begins with tc: it is no command, or what is reported of the command. A deletion keeps nothing apart, and
+-- nothing more is reported of it.
 abbrev pub verdict_lines : Teller → CheckSettings → Result Command TcFault → List ℕ
 verdict_lines tell s (Err fault) = tc_fault_line fault
 verdict_lines tell s (Ok Delete) = apart_line []

@@ -4,5 +4,6 @@ pub mod Refusals
 pub mod Checked
 pub mod Alerts
 pub mod Windows
+pub mod Shares
 pub mod WindowLines
 pub mod Words

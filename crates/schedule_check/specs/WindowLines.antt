@@ -68,7 +68,7 @@ unfoldable pub open_lines : (ℕ → List ℕ) → ℕ → ℕ → List ℕ
 open_lines line zero class = []
 open_lines line (suc n) class = line class ++ open_lines line n (class + 1)
 
--- the lines of the classes below a number, where windows are asked for
+-- the lines of the classes below a number, where they are asked for
 abbrev pub asked_lines : Bool → (ℕ → List ℕ) → ℕ → List ℕ
 asked_lines true line count = open_lines line count 0
 asked_lines false line count = []

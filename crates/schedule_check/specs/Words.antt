@@ -20,9 +20,11 @@ pub use Rattle.job.specs.Outcome.{RunsOut}
 pub use Rattle.script.specs.ScriptEnd.{IsEnding}
 pub use Rattle.script.specs.Given.{octets_of}
 pub use Rattle.script.specs.Outcome.{bad_line, long_line}
-pub use Rattle.schedule_check.specs.Apart.{apart_line, change_lines, class_count, class_line, class_word, itself_apart, some_line, verdict_lines}
+pub use Rattle.schedule_check.specs.Apart.{apart_line, change_lines, class_count, class_line, itself_apart, some_line, verdict_lines}
 unfoldable pub use Rattle.schedule_check.specs.Apart.{classes_apart}
 pub use Rattle.schedule_check.specs.Checked.{checked_in, checked_of, is_command, whole_check}
+pub use Rattle.schedule_check.specs.Shares.{class_word, is_sharing, itself_sharing, share_windows, shares_line, sharing_line, with_line}
+unfoldable pub use Rattle.schedule_check.specs.Shares.{classes_sharing, open_both}
 pub use Rattle.schedule_check.specs.WindowLines.{asked_lines, frame_text, given_wait_text, longest_wait_of, never_line, time_text, told_line, wait_text, waits_text, window_line}
 unfoldable pub use Rattle.schedule_check.specs.WindowLines.{open_lines}
 pub use Rattle.schedule_check.specs.Windows.{IsLengthened, IsLongestFrame, IsLonger, IsLongestOpen, IsOpenStay, IsTeller, IsWindow, Teller, alone, turned, turned_entry, turned_mask, turned_plan}

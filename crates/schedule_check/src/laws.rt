@@ -1,7 +1,8 @@
 //! Laws of what a schedule gives a class. The functions run nothing: the contract of each is its law.
 
-ghost use Rattle.std.specs.Prelude.{◌≡◌, ◌<◌, ◌^◌, ◌↔◌, ℕ, not, true};
-ghost use Rattle.schedule_check.specs.Words.{Plan, in_ps, opens, IsTeller, Teller, alone, open_total, turned_mask, CLASSES};
+ghost use Rattle.std.specs.Prelude.{◌≡◌, ◌<◌, ◌^◌, ◌↔◌, ℕ, IsTrue, not, true};
+ghost use Rattle.schedule_check.specs.Words.{Plan, in_ps, opens, IsTeller, Teller, alone, open_total, share_windows, turned_mask, CLASSES};
+ghost use Rattle.shared_bounds.specs.Sharing.{Share};
 
 /// A turned mask opens just the classes that the mask closes, of the eight of a mask of eight bits.
 pub fn turned_masks()
@@ -13,6 +14,11 @@ pub fn one_teller()
     ensures some { (tell : Teller) × IsTeller tell }
     ensures one { (tell other : Teller) → IsTeller tell → IsTeller other
         → (ps : ℕ) (plan : Plan) (class : ℕ) → 0 < plan.cycle → tell ps plan class ≡ other ps plan class }
+{}
+
+/// Two classes share windows in a cycle just where they do at all: at some moment both are open.
+pub fn shared_windows()
+    ensures { (plan : Plan) (class other : ℕ) → 0 < plan.cycle → IsTrue (share_windows plan class other) ↔ Share plan class other }
 {}
 
 /// A class is ever open just where it is for some part of a cycle.

@@ -3,15 +3,16 @@
 ghost use Rattle.std.specs.Prelude.{◌≡◌, ◌<◌, ◌≤◌, ◌+◌, ◌++◌, ℕ, List, None, Ok, Result};
 ghost use Rattle.abstract_port.specs.declared.Command.TheVariants.{Replace};
 ghost use Rattle.schedule_check.specs.Alerts.{alert_of, first_never, line_wrong, never_opens, wrong_with};
-ghost use Rattle.schedule_check.specs.Words.{array_vec_len, apart_line, change_lines, class_count, class_word, classes_apart, itself_apart, some_line, verdict_lines, IsTeller, Teller, Writes, plan_asked, Command, plan_fault, IsReader, TcFault, CLASSES, words_of, alone, in_ps, open_total};
-ghost use Rattle.std.specs.List.{flat_map};
+ghost use Rattle.schedule_check.specs.Words.{array_vec_len, apart_line, change_lines, class_count, classes_apart, itself_apart, some_line, verdict_lines, IsTeller, Teller, Writes, plan_asked, Command, plan_fault, IsReader, TcFault, CLASSES, words_of, alone, in_ps, open_total};
 
+use crate::class_words::put_classes;
 use crate::refusals::{early_refusal, is_led_after, map_after};
 use crate::settings::CheckSettings;
+use crate::share_lines::put_shares;
 use crate::window_lines::put_asked;
 use crate::windows::shares_of;
 use abstract_port::{Change, Command, Refused};
-use answer_text::{Part, WriteFault, put, put_parts, put_refused, put_tc_fault};
+use answer_text::{WriteFault, put, put_refused, put_tc_fault};
 use arrayvec::ArrayVec;
 use class_map::ClassMap;
 use gate_list::Schedule;
@@ -53,23 +54,6 @@ pub fn classes_apart(schedule: &Schedule, count: u8) -> ArrayVec<u8, CLASSES>
         add_apart(&mut classes, schedule, class);
     }
     classes
-}
-
-/// Writes a space and the number of a class.
-fn put_class<W: Write>(writer: &mut W, class: u8) -> Result<(), WriteFault>
-    ensures { Writes result (W.contents writer.old) (W.contents writer.new) (class_word class) }
-{
-    put_parts(writer, &[Part::Text(b" "), Part::Number(u128::from(class))])
-}
-
-/// Writes a space and a number for each class.
-fn put_classes<W: Write>(writer: &mut W, classes: &[u8]) -> Result<(), WriteFault>
-    ensures { Writes result (W.contents writer.old) (W.contents writer.new) (flat_map class_word classes.now) }
-{
-    for class in classes {
-        put_class(writer, *class)?;
-    }
-    Ok(())
 }
 
 /// Writes the line of some classes.
@@ -137,8 +121,8 @@ fn tell_wrong<H: Watch>(number: u32, line: &[u8], wrong: Option<Failure>, watch:
     }
 }
 
-/// Reports on an accepted schedule: the classes that it keeps apart and, where windows are asked for, what it gives
-/// each class.
+/// Reports on an accepted schedule: the classes that it keeps apart and, where they are asked for, those that share
+/// windows, and what it gives each class.
 fn put_schedule<W: Write>(
     writer: &mut W,
     settings: &CheckSettings,
@@ -152,6 +136,7 @@ fn put_schedule<W: Write>(
 {
     let count = class_count(map_after(settings.map, change.map));
     put_apart(writer, &classes_apart(schedule, count))?;
+    put_shares(writer, settings.shares, schedule, count)?;
     put_asked(writer, settings, change, schedule, count)
 }
 

@@ -77,7 +77,8 @@ fn check_lines<A: Allocator, R: Read + Drop, W: Write, H: Watch>(
 /// Reads schedule commands to the end of the input, and reports on each by the settings: its fault where it is no
 /// command; the refusal of its schedule; or `apart` with the classes that the schedule keeps apart, in rising order, of
 /// those of the map that the port then has, or of all eight where that isn't known; a deletion keeps none apart. Where
-/// windows are asked for, a line follows for each of these classes: of what the schedule gives it, or that it is never
+/// it is asked what is shared, a line follows for each of these classes that shares windows with others of them. Where
+/// windows are asked for, one follows behind these for each class: of what the schedule gives it, or that it is never
 /// open, where some priority leads to it.
 ///
 /// Lines without words and comments are skipped, and other lines too where they are those of a script; else any other

@@ -1,6 +1,6 @@
 //! How schedules are checked.
 
-ghost use Rattle.std.specs.Prelude.{◌≡◌, IfOk};
+ghost use Rattle.std.specs.Prelude.{◌≡◌, IfOk, false};
 ghost use Rattle.schedule_check.specs.CheckEnd.{checks_given, length_in, usual};
 ghost use Rattle.schedule_check.specs.Refusals.{where_given};
 ghost use Rattle.schedule_check.specs.Words.{octets_of};
@@ -20,6 +20,8 @@ pub struct CheckSettings {
     pub mtu: u32,
     /// The map that the port has already, if it has one.
     pub map: Option<ClassMap>,
+    /// Whether classes that share windows are reported beside the classes that a schedule keeps apart.
+    pub shares: bool,
     /// Whether what a schedule gives each class is reported beside the classes that it keeps apart.
     pub windows: bool,
     /// The length of a frame, in octets, whose longest wait is reported beside what a schedule gives each class.
@@ -29,14 +31,16 @@ pub struct CheckSettings {
 }
 
 impl CheckSettings {
-    /// Schedules are judged at this rate, for a new port of an mtu of 1500 octets, with windows or without.
+    /// Schedules are judged at this rate, for a new port of an mtu of 1500 octets, with windows or without; classes that
+    /// share windows aren't reported.
     pub fn usual(rate: Rate, windows: bool) -> CheckSettings
-        ensures { result ≡ usual windows rate }
+        ensures { result ≡ usual false windows rate }
     {
         CheckSettings {
             rate,
             mtu: 1500,
             map: None,
+            shares: false,
             windows,
             frame: None,
             script: false,
@@ -55,6 +59,8 @@ pub struct CheckWords<'a> {
     pub map: Option<&'a str>,
     /// The length of a frame, in octets.
     pub frame: Option<&'a str>,
+    /// Whether classes that share windows are reported.
+    pub shares: bool,
     /// Whether windows are reported.
     pub windows: bool,
     /// Whether the lines are those of a script.
@@ -76,7 +82,7 @@ fn given_length(text: Option<&str>) -> Option<Option<u32>>
 
 /// The settings of the values that are given, and of those that stand for the others. The first bad value is the fault.
 pub fn checks_given(words: CheckWords<'_>) -> Result<CheckSettings, BadValue>
-    ensures { result ≡ checks_given (octets_of words.entry.rate) (octets_of words.entry.mtu) (octets_of words.entry.map) (octets_of words.entry.frame) words.entry.windows words.entry.script }
+    ensures { result ≡ checks_given (octets_of words.entry.rate) (octets_of words.entry.mtu) (octets_of words.entry.map) (octets_of words.entry.frame) words.entry.shares words.entry.windows words.entry.script }
 {
     let port = Values {
         rate: words.rate,
@@ -99,6 +105,7 @@ pub fn checks_given(words: CheckWords<'_>) -> Result<CheckSettings, BadValue>
         rate: settings.rate(),
         mtu: settings.mtu(),
         map,
+        shares: words.shares,
         windows: words.windows,
         frame,
         script: words.script,
