@@ -67,6 +67,7 @@ const WINDOWS: CheckWords<'static> = CheckWords {
     mtu: None,
     map: None,
     frame: None,
+    shares: false,
     windows: true,
     script: false,
 };

@@ -1,5 +1,5 @@
 -- What a call over memory reports of delay bounds.
-use Rattle.std.specs.Prelude.{◌⊎◌, ℕ, List, nat_le, ◌&&◌, [], Bool, false, Option, Some, None, Result, Ok, Err, if◌then◌else◌}
+use Rattle.std.specs.Prelude.{◌⊎◌, ℕ, List, nat_le, ◌&&◌, [], ◌∷◌, Bool, false, Option, Some, None, Result, Ok, Err, if◌then◌else◌}
 use Rattle.abstract_port.specs.declared.Command.{Command}
 use Rattle.stream_bounds.specs.BoundsEnd.{bounds_value_text, with_port}
 use Rattle.stream_bounds.specs.Faults.{bounds_telling}
@@ -8,6 +8,8 @@ use Rattle.stream_bounds.specs.declared.settings.BoundsValue.{BoundsValue}
 use Rattle.stream_bounds.specs.declared.settings.TheConstants.{MAX_FRAMES}
 use Rattle.stream_bounds.specs.Outcome.{IsOutcome}
 use Rattle.tc_reader.specs.declared.fault.TcFault.{TcFault}
+use Rattle.gate_list.specs.Gate.{opens}
+use Rattle.in_memory.specs.declared.bounds.BoundsAsked.{BoundsAsked}
 use Rattle.in_memory.specs.Slices.{Answers, HasNoMemory, Slices, Told, told_of}
 use Rattle.in_memory.specs.declared.jobs.Ran.{Ran}
 use Rattle.in_memory.specs.Values.{settings_at}
@@ -17,9 +19,15 @@ use Rattle.in_memory.specs.declared.values.PortValues.{PortValues}
 abbrev pub frames_at : ℕ → Option ℕ
 frames_at frames = if nat_le 1 frames && nat_le frames MAX_FRAMES then Some frames else None
 
--- the settings of values and of so many frames, and whether slack is told; or the first that is bad. They are not strict.
-abbrev pub bounds_settings_at : PortValues → ℕ → Bool → Result BoundsSettings BoundsValue
-bounds_settings_at v frames slack = with_port (settings_at v) (Some None) (frames_at frames) false slack
+-- the classes of a mask, whose bit N is class N
+abbrev pub classes_of : ℕ → List Bool
+classes_of mask = opens mask 0 ∷ opens mask 1 ∷ opens mask 2 ∷ opens mask 3 ∷ opens mask 4 ∷ opens mask 5 ∷ opens mask 6 ∷ opens mask 7 ∷ []
+
+-- the settings of values and of so many frames, with what is asked beside them; or the first that is bad. They are not strict.
+abbrev pub bounds_settings_at : PortValues → ℕ → BoundsAsked → Result BoundsSettings BoundsValue
+bounds_settings_at v frames asked =
+    with_port (settings_at v) (Some None) (frames_at frames) (Some (classes_of asked.silent))
+    (record { strict = false; slack = asked.slack; leftovers = asked.leftovers })
 
 -- a bad value, with status 2 and no output
 abbrev pub refused_bounds : BoundsValue → Told

@@ -19,7 +19,7 @@ mod scripts;
 mod tables;
 mod values;
 
-pub use bounds::bounds_octets;
+pub use bounds::{BoundsAsked, bounds_octets};
 pub use captures::{ReplayRan, replay_octets};
 pub use checks::check_octets;
 pub use frames::{frames_by_stream_octets, frames_octets, frames_of_capture_octets};

@@ -23,12 +23,14 @@ tc qdisc replace dev eth0 root taprio base-time 0\n";
 const TOLD: &[u8] =
     b"apart 0 1 2\napart 2 3 4 5 6 7\napart none\nrefused IntervalTooShort 0\ntc-fault NoEntries\n";
 
-/// What is reported of them with windows.
+/// What is reported of them with the classes that share windows, and with windows.
 const TOLD_WITH_WINDOWS: &[u8] = b"apart 0 1 2\n\
 window class 0 open 300000000 closed 700000000 share 300000000 of 1000000000 frame 37476 wait 999999999\n\
 window class 1 open 300000000 closed 700000000 share 300000000 of 1000000000 frame 37476 wait 999999999\n\
 window class 2 open 400000000 closed 600000000 share 400000000 of 1000000000 frame 49976 wait 999999999\n\
 apart 2 3 4 5 6 7\n\
+shares 0 with 1\n\
+shares 1 with 0\n\
 window class 0 open always closed 0 share 600000000 of 600000000 frame any wait 0\n\
 window class 1 open 300000000 closed 300000000 share 300000000 of 600000000 frame 37476 wait 599999999\n\
 never 2\n\
@@ -41,7 +43,8 @@ apart none\n\
 refused IntervalTooShort 0\n\
 tc-fault NoEntries\n";
 
-/// What is reported of the commands from a reader at 1 Gb/s, with windows or without, in this memory.
+/// What is reported of the commands from a reader at 1 Gb/s, with what is shared and with windows, or without both, in
+/// this memory.
 fn check_of<A: Allocator, R: Read + Drop, W: Write>(
     alloc: A,
     reader: R,
@@ -51,13 +54,11 @@ fn check_of<A: Allocator, R: Read + Drop, W: Write>(
     let Ok(rate) = Rate::from_mbps(1000) else {
         return Err(RunFault::Memory);
     };
-    check(
-        alloc,
-        reader,
-        writer,
-        CheckSettings::usual(rate, windows),
-        &mut Unwatched,
-    )
+    let settings = CheckSettings {
+        shares: windows,
+        ..CheckSettings::usual(rate, windows)
+    };
+    check(alloc, reader, writer, settings, &mut Unwatched)
 }
 
 /// Whether a heap of so many octets is enough for the commands; none where what is reported is wrong.

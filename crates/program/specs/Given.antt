@@ -67,7 +67,7 @@ stamp_in found = stamp_given (first_value found (codes "stamp"))
 abbrev pub checks_in : Found → Result CheckSettings BadValue
 checks_in found =
     checks_given (first_value found (codes "rate")) (first_value found (codes "mtu")) (first_value found (codes "map")) (first_value found (codes "frame"))
-    (flag_in (codes "windows") found) (flag_in (codes "script") found)
+    (flag_in (codes "shares") found) (flag_in (codes "windows") found) (flag_in (codes "script") found)
 
 -- what the values that are given to the options say of a picture
 abbrev pub draws_in : Found → Result DrawOptions BadValue
@@ -96,8 +96,8 @@ IsGivenStreams (Err value) (Some path) table ended old got errors_old errors_new
 -- the settings of the values that are given to the options of bounds
 abbrev pub bounds_in : Found → Result BoundsSettings BoundsValue
 bounds_in found =
-    bounds_given (words_in found) (first_value found (codes "map")) (first_value found (codes "frames"))
-    (flag_in (codes "strict") found) (flag_in (codes "slack") found)
+    bounds_given (words_in found) (first_value found (codes "map")) (first_value found (codes "frames")) (first_value found (codes "silent"))
+    (record { strict = flag_in (codes "strict") found; slack = flag_in (codes "slack") found; leftovers = flag_in (codes "leftovers") found })
 
 -- The end of a run on schedules and the table that the words name: that of the schedules and of some octets, since what a file gives is not known, or
 -- of the path that can't be opened; or of a value that is bad, which comes first. There is no end where the words name no table: they are refused then.

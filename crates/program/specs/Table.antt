@@ -47,12 +47,12 @@ rules_of Names.Replay =
     ∷ flag (codes "summary") ∷ flag (codes "progress") ∷ flag (codes "strict") ∷ flag (codes "strict-frames") ∷ flag (codes "explain")
     ∷ file (codes "script") ∷ file (codes "capture") ∷ file (codes "out") ∷ []
 rules_of Names.Check =
-    option (codes "rate") ∷ option (codes "mtu") ∷ option (codes "map") ∷ flag (codes "windows") ∷ option (codes "frame")
-    ∷ flag (codes "script") ∷ flag (codes "strict") ∷ flag (codes "explain") ∷ []
+    option (codes "rate") ∷ option (codes "mtu") ∷ option (codes "map") ∷ flag (codes "shares") ∷ flag (codes "windows")
+    ∷ option (codes "frame") ∷ flag (codes "script") ∷ flag (codes "strict") ∷ flag (codes "explain") ∷ []
 rules_of Names.Streams = option (codes "with") ∷ option (codes "from") ∷ flag (codes "late") ∷ option (codes "seed") ∷ flag (codes "strict") ∷ flag (codes "explain") ∷ []
 rules_of Names.Bounds =
     option (codes "rate") ∷ option (codes "mtu") ∷ option (codes "room") ∷ option (codes "map") ∷ option (codes "frames")
-    ∷ flag (codes "slack") ∷ flag (codes "strict") ∷ flag (codes "explain") ∷ file (codes "table") ∷ []
+    ∷ option (codes "silent") ∷ flag (codes "leftovers") ∷ flag (codes "slack") ∷ flag (codes "strict") ∷ flag (codes "explain") ∷ file (codes "table") ∷ []
 rules_of Names.Draw =
     option (codes "rate") ∷ option (codes "mtu") ∷ option (codes "room") ∷ option (codes "until") ∷ option (codes "from")
     ∷ option (codes "to") ∷ option (codes "width") ∷ flag (codes "strict") ∷ flag (codes "explain") ∷ []

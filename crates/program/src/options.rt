@@ -83,6 +83,8 @@ pub(crate) fn bounds_of<'a>(matches: &ArgMatches<'a>) -> BoundsWords<'a>
     ensures frames { octets_of result.frames ≡ first_value (found_of matches.now) (codes "frames") }
     ensures strict { result.strict ≡ flag_in (codes "strict") (found_of matches.now) }
     ensures slack { result.slack ≡ flag_in (codes "slack") (found_of matches.now) }
+    ensures silent { octets_of result.silent ≡ first_value (found_of matches.now) (codes "silent") }
+    ensures leftovers { result.leftovers ≡ flag_in (codes "leftovers") (found_of matches.now) }
 {
     BoundsWords {
         port: values_of(matches),
@@ -90,6 +92,8 @@ pub(crate) fn bounds_of<'a>(matches: &ArgMatches<'a>) -> BoundsWords<'a>
         frames: matches.get_str("frames"),
         strict: is_given(matches, "strict"),
         slack: is_given(matches, "slack"),
+        silent: matches.get_str("silent"),
+        leftovers: is_given(matches, "leftovers"),
     }
 }
 
@@ -112,6 +116,7 @@ pub(crate) fn checks_of<'a>(matches: &ArgMatches<'a>) -> CheckWords<'a>
     ensures mtu { octets_of result.mtu ≡ first_value (found_of matches.now) (codes "mtu") }
     ensures map { octets_of result.map ≡ first_value (found_of matches.now) (codes "map") }
     ensures frame { octets_of result.frame ≡ first_value (found_of matches.now) (codes "frame") }
+    ensures shares { result.shares ≡ flag_in (codes "shares") (found_of matches.now) }
     ensures windows { result.windows ≡ flag_in (codes "windows") (found_of matches.now) }
     ensures script { result.script ≡ flag_in (codes "script") (found_of matches.now) }
 {
@@ -120,6 +125,7 @@ pub(crate) fn checks_of<'a>(matches: &ArgMatches<'a>) -> CheckWords<'a>
         mtu: matches.get_str("mtu"),
         map: matches.get_str("map"),
         frame: matches.get_str("frame"),
+        shares: is_given(matches, "shares"),
         windows: is_given(matches, "windows"),
         script: is_given(matches, "script"),
     }
@@ -248,6 +254,14 @@ const MAP: Word = Word {
     without: None,
 };
 
+const SHARES: Word = Word {
+    given: Given::Flag,
+    name: "shares",
+    value: "",
+    help: "Report for each class which others share windows with it",
+    without: None,
+};
+
 const WINDOWS: Word = Word {
     given: Given::Flag,
     name: "windows",
@@ -325,6 +339,22 @@ const SLACK: Word = Word {
     name: "slack",
     value: "",
     help: "Report the greatest jitter with which each stream still makes its deadline",
+    without: None,
+};
+
+const SILENT: Word = Word {
+    given: Given::Value,
+    name: "silent",
+    value: "CLASSES",
+    help: "Take it for granted that these classes send nothing, where they have no streams: classes with commas, 6,7",
+    without: None,
+};
+
+const LEFTOVERS: Word = Word {
+    given: Given::Flag,
+    name: "leftovers",
+    value: "",
+    help: "Allow for frames of other classes that wait from before the schedule, but of silent ones",
     without: None,
 };
 
@@ -451,6 +481,7 @@ pub(crate) const JOBS: [Job; 7] = [
             RATE,
             MTU,
             MAP,
+            SHARES,
             WINDOWS,
             FRAME,
             SCRIPT_LINES,
@@ -466,7 +497,9 @@ pub(crate) const JOBS: [Job; 7] = [
     Job {
         name: JobName::Bounds,
         about: "Reports how long the frames of the streams in a table can ever wait, by the schedule commands on standard input",
-        words: &[RATE, MTU, ROOM, MAP, FRAMES, SLACK, STRICT, EXPLAIN, TABLE],
+        words: &[
+            RATE, MTU, ROOM, MAP, FRAMES, SILENT, LEFTOVERS, SLACK, STRICT, EXPLAIN, TABLE,
+        ],
     },
     Job {
         name: JobName::Draw,

@@ -2,7 +2,6 @@
 use Rattle.std.proofs.Common.{◌≡◌, ℕ, Bool, List, [], ◌∷◌, ◌++◌, Option, Some, None, Result, Ok, Err, true, false, refl, sym, ap, ◌∙◌, subst, append_assoc, inl, inr}
 use Rattle.std.specs.Prelude.{IfSome, option_map}
 use Rattle.std.specs.Io.KnownBytes.{Appends, Keeps}
-use Rattle.octet_writer.specs.Writes.{FallsShort}
 use Rattle.octet_writer.proofs.Fronts.{Appends-nil, sent_all, sent_none}
 use Rattle.words.specs.Words.{words_of}
 use Rattle.line_reader.specs.Script.{Script, End, Broken, Line, script_of}
@@ -15,14 +14,14 @@ use Rattle.job.specs.RunEnd.{IsOrFails}
 use Rattle.job.proofs.RunEndLaws.{out_of_inputs}
 use Rattle.job.specs.declared.fault.Fault.{Fault}
 use Rattle.job.specs.declared.fault.Fault.TheVariants as Faults
-use Rattle.job.proofs.LineLaws.{Goes, behind, begun, faulty, goes_kept, goes_no_further, goes_on, goes_past, goes_wrong}
+use Rattle.job.proofs.LineLaws.{Goes, begun, faulty, goes_kept, goes_no_further, goes_on, goes_past, goes_wrong}
 use Rattle.schedule_check.specs.Checked.{is_command}
 use Rattle.script.specs.declared.faults.BadLine.{BadLine}
 use Rattle.script.specs.declared.faults.ScriptFault.{ScriptFault}
 use Rattle.stream_bounds.specs.BoundLines.{AreCommandAnswers, command_answered, command_lines, joined}
 use Rattle.stream_bounds.specs.Faults.{limited_behind, schedules_fault, schedules_limited, table_fault}
 use Rattle.stream_bounds.specs.Outcome.{AreAnswers, AreLineAnswers, AreTableAnswers, IsBounded, IsOutcome, begun_with, behind_lines, bounds_in, end_fault, found_in_all, outcome_in, outcome_unless, periodic, told_if, with_answers, with_command}
-use Rattle.stream_bounds.specs.TableRead.{IsEnd, RunsLines, Tells, TellsLine, may_stop}
+use Rattle.stream_bounds.specs.TableRead.{IsEnd, RunsLines, TellsLine, may_stop}
 use Rattle.stream_bounds.specs.Verdicts.{ClassAnswer}
 use Rattle.stream_bounds.specs.declared.faults.Answered.{Answered}
 use Rattle.stream_bounds.specs.declared.faults.BoundsInput.{BoundsInput}

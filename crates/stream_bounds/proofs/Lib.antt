@@ -3,3 +3,5 @@ mod LineLaws
 mod PickLaws
 mod RefusalLaws
 mod AnswerLaws
+mod SharedLaws
+mod SilentLaws

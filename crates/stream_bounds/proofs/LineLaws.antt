@@ -1,8 +1,8 @@
 -- The lines of classes and of streams, one after another.
-use Rattle.std.proofs.Common.{◌≡◌, ◌<◌, ◌≤◌, ℕ, suc, ◌+◌, ◌-◌, List, [], ◌∷◌, ◌++◌, length, drop, get_or, Option, Some, None, refl, sym, ap, ◌∙◌, arith}
+use Rattle.std.proofs.Common.{◌≡◌, ◌<◌, ◌≤◌, ℕ, suc, ◌+◌, ◌-◌, Bool, false, List, [], ◌∷◌, ◌++◌, length, drop, get_or, slice_index_or, Option, Some, None, refl, sym, ap, ◌∙◌, arith}
 use Rattle.std.proofs.lemmas.List.{at_drop_all, at_drop_more}
 use Rattle.abstract_port.specs.declared.Change.{Change}
-use Rattle.stream_bounds.specs.BoundLines.{bound_lines, class_finding, class_finding_in, class_line, class_lines, finding_in, first_of, stream_finding, stream_text}
+use Rattle.stream_bounds.specs.BoundLines.{bound_lines, class_finding, class_finding_in, class_line, class_lines, flag_text, flag_texts, finding_in, first_of, stream_finding, stream_text}
 use Rattle.stream_bounds.specs.Classes.{class_of}
 use Rattle.stream_bounds.specs.Verdicts.{ClassAnswer, answer_at, left_after, needs_of, next_delay, slack_of}
 use Rattle.stream_bounds.specs.declared.faults.Finding.{Finding}
@@ -24,6 +24,18 @@ class_more room answers class v less is =
 pub class_end : (room : ℕ) (answers : List ClassAnswer) (class : ℕ) → 8 ≤ class → class_lines room answers (8 - class) class ≡ []
 unfolding class_lines
 class_end room answers class over = ap (λ n. class_lines room answers n class) (let none : 8 - class ≡ 0 = omega arith in none)
+
+-- one class more of those that are meant
+pub flag_more : (flags : List Bool) (class : ℕ) → class < 8
+    → flag_texts flags (8 - class) class ≡ flag_text (slice_index_or flags class false) class ++ flag_texts flags (8 - (class + 1)) (class + 1)
+unfolding flag_texts
+flag_more flags class less =
+    ap (λ n. flag_texts flags n class) (let step : 8 - class ≡ suc (8 - (class + 1)) = omega arith in step)
+
+-- there are no more
+pub flag_end : (flags : List Bool) (class : ℕ) → 8 ≤ class → flag_texts flags (8 - class) class ≡ []
+unfolding flag_texts
+flag_end flags class over = ap (λ n. flag_texts flags n class) (let none : 8 - class ≡ 0 = omega arith in none)
 
 -- findings one after another
 first_of_three : (a b c : Option Finding) → first_of (first_of a b) c ≡ first_of a (first_of b c)

@@ -1,6 +1,6 @@
 -- The lines of a schedule's bounds. Times are in picoseconds.
-use Rattle.std.specs.Prelude.{ℕ, ◌≡◌, ◌+◌, zero, suc, ◌||◌, Bool, true, false, List, [], ◌∷◌, ◌++◌, Option, Some, None, Result, Ok, Err, decimal, codes}
-use Rattle.std.specs.List.{concat}
+use Rattle.std.specs.Prelude.{ℕ, ◌≡◌, ◌+◌, zero, suc, ◌||◌, ◌&&◌, not, Bool, true, false, List, [], ◌∷◌, ◌++◌, slice_index_or, Option, Some, None, Result, Ok, Err, decimal, codes, if◌then◌else◌}
+use Rattle.std.specs.List.{concat, list_any}
 use Rattle.answer_text.specs.Names.{dropped_name}
 use Rattle.abstract_port.specs.AbstractPort.{plan_asked}
 use Rattle.abstract_port.specs.declared.Change.{Change}
@@ -11,7 +11,8 @@ use Rattle.answer_text.specs.Lines.{refused_line, tc_fault_line}
 use Rattle.schedule_check.specs.Apart.{apart_line, class_count, classes_apart}
 use Rattle.schedule_check.specs.Refusals.{map_after}
 use Rattle.delay_bounds.specs.declared.Bound.{Bound}
-use Rattle.stream_bounds.specs.Classes.{class_of, refusal_of}
+use Rattle.stream_bounds.specs.Classes.{class_of, is_class, refusal_of}
+use Rattle.stream_bounds.specs.Standing.{is_said}
 use Rattle.stream_bounds.specs.Verdicts.{AreClassAnswers, ClassAnswer, answer_at, left_after, met_by, needs_of, next_delay, plus, slack_of}
 use Rattle.stream_bounds.specs.declared.faults.Answered.{Answered}
 use Rattle.stream_bounds.specs.declared.faults.Finding.{Finding}
@@ -78,10 +79,35 @@ within_line class room most = concat (
     ∷ codes " of " ∷ decimal room
     ∷ codes "\n" ∷ [])
 
+-- a class, where it is meant
+abbrev pub flag_text : Bool → ℕ → List ℕ
+flag_text is class = if is then concat (codes " " ∷ decimal class ∷ []) else []
+
+-- of so many classes from one on those that are meant, in rising order
+unfoldable pub flag_texts : List Bool → ℕ → ℕ → List ℕ
+flag_texts flags zero class = []
+flag_texts flags (suc n) class = flag_text (slice_index_or flags class false) class ++ flag_texts flags n (class + 1)
+
+-- those that are meant, behind some words, to the end of the line
+abbrev pub flagged_line : List ℕ → List Bool → List ℕ
+flagged_line words flags = words ++ (flag_texts flags 8 0 ++ codes "\n")
+
+-- the line of a class that is open to others above it
+abbrev pub open_line : ℕ → List Bool → List ℕ
+open_line class to = class_head class ++ flagged_line (codes " open to") to
+
+-- the line of a class behind one that has no bounds
+abbrev pub behind_line : ℕ → ℕ → List ℕ
+behind_line class other = concat (codes "class " ∷ decimal class ∷ codes " behind " ∷ decimal other ∷ codes "\n" ∷ [])
+
 -- the line of a class; one without streams has none
 abbrev pub class_line : ℕ → ℕ → Verdict → List ℕ
 class_line class room Verdicts.Idle = []
-class_line class room Verdicts.Shared = word_line class (codes " shared")
+class_line class room (Verdicts.Open to) = open_line class to
+class_line class room (Verdicts.Behind other) = behind_line class other
+class_line class room (Verdicts.Sharing b) = within_line class room b.most
+class_line class room Verdicts.NoWindow = word_line class (codes " stuck")
+class_line class room Verdicts.Blocked = word_line class (codes " blocked")
 class_line class room (Verdicts.Bounded most frames every) = bounded_line class room most frames every
 class_line class room (Verdicts.Within most reached) = within_line class room most
 class_line class room (Verdicts.Crowded most) = within_line class room most
@@ -163,13 +189,36 @@ bound_lines s c answers (x ∷ xs) =
 
 -- 3. Commands
 
--- The lines of a change: why the port refuses it; or the classes that its schedule keeps apart, of those of the map that the port then has, the verdict about
--- each class, and the delay of each stream, by the answers about all classes.
+-- whether a stream of a table is of a class
+abbrev pub has_stream : BoundsSettings → Change → List Stream → ℕ → Bool
+has_stream s c streams class = list_any (λ x. is_class class (class_of s c x)) streams
+
+-- whether it is taken for granted that a class sends nothing: so it is said, and it has no streams
+abbrev pub is_silent : BoundsSettings → Change → List Stream → ℕ → Bool
+is_silent s c streams class = is_said s class && not (has_stream s c streams class)
+
+-- of each of the eight classes
+abbrev pub silent_classes : BoundsSettings → Change → List Stream → List Bool
+silent_classes s c streams =
+    is_silent s c streams 0 ∷ is_silent s c streams 1 ∷ is_silent s c streams 2 ∷ is_silent s c streams 3
+    ∷ is_silent s c streams 4 ∷ is_silent s c streams 5 ∷ is_silent s c streams 6 ∷ is_silent s c streams 7 ∷ []
+
+-- the line of these, where it is said of any
+abbrev pub silent_line : BoundsSettings → Change → List Stream → List ℕ
+silent_line s c streams = if list_any (λ is. is) s.silent then flagged_line (codes "silent") (silent_classes s c streams) else []
+
+-- the classes that a schedule keeps apart, of those of the map that the port then has, and those of which it is taken for granted that they send
+-- nothing
+abbrev pub premise_lines : BoundsSettings → Change → List Stream → List ℕ
+premise_lines s c streams =
+    apart_line (classes_apart (class_count (map_after s.map c.map)) 0 (plan_asked c).entries) ++ silent_line s c streams
+
+-- The lines of a change: why the port refuses it; or the classes that its schedule keeps apart, of those of the map that the port then has, those of which
+-- it is taken for granted that they send nothing, the verdict about each class, and the delay of each stream, by the answers about all classes.
 abbrev pub change_lines : Option Refused → BoundsSettings → Change → List Stream → List ClassAnswer → List ℕ
 change_lines (Some why) s c streams answers = refused_line why
 change_lines None s c streams answers =
-    apart_line (classes_apart (class_count (map_after s.map c.map)) 0 (plan_asked c).entries)
-    ++ (class_lines s.port.room answers 8 0 ++ bound_lines s c answers streams)
+    premise_lines s c streams ++ (class_lines s.port.room answers 8 0 ++ bound_lines s c answers streams)
 
 -- the lines of a line that begins with tc: it is no command, or what is answered about the command; a deletion keeps nothing apart
 abbrev pub command_lines : BoundsSettings → List Stream → Result Command TcFault → List ClassAnswer → List ℕ
@@ -212,6 +261,7 @@ abbrev pub class_finding : ℕ → Verdict → Option Finding
 class_finding class (Verdicts.Full f alone) = Some (Findings.Full class)
 class_finding class (Verdicts.Stuck never full) = Some (Findings.Stuck class)
 class_finding class Verdicts.Unfit = Some (Findings.Stuck class)
+class_finding class Verdicts.NoWindow = Some (Findings.Stuck class)
 class_finding class (Verdicts.Overloaded alone) = Some (Findings.Overloaded class)
 class_finding class _ = None
 

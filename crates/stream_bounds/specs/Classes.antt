@@ -1,5 +1,5 @@
 -- Which streams are of which class, by a schedule that a new port has accepted.
-use Rattle.std.specs.Prelude.{◌<◌, ◌≤◌, ℕ, ◌+◌, ◌==◌, ◌&&◌, if◌then◌else◌, max, min, not, Bool, true, false, List, [], ◌∷◌, filter, map, Option, Some, None, is_some, Result, Ok, Err}
+use Rattle.std.specs.Prelude.{◌<◌, ◌≤◌, ℕ, ◌+◌, ◌^◌, ◌==◌, ◌&&◌, if◌then◌else◌, max, min, not, Bool, false, List, [], ◌∷◌, filter, Option, Some, None, is_some, Result, Ok, Err}
 use Rattle.std.specs.List.{list_all, list_any}
 use Rattle.wire_time.specs.Moment.{greatest_moment}
 use Rattle.wire_time.specs.Wire.{occupancy_of}
@@ -132,3 +132,7 @@ pub record IsPeriodic (x : Stream) : Type 0 where
   pub period : x.period ≤ greatest_moment
   pub offset : earliest x ≤ greatest_moment
   pub jitter : x.jitter ≤ greatest_moment
+
+-- a talker whose frames need the wire for less than 2^60
+pub record IsShort (t : Talker) : Type 0 where
+  pub short : t.need < 2 ^ 60

@@ -1,4 +1,6 @@
 pub mod Classes
+pub mod Standing
+pub mod Shared
 pub mod Verdicts
 pub mod BoundLines
 pub mod Faults

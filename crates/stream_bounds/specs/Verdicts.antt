@@ -9,8 +9,13 @@
 -- run whose frames conform to the arrival curve of the streams. What such bounds are worth in every run of a port is the law
 -- `any_traffic::any_traffic`; that these frames do conform, `any_traffic::sporadic`.
 --
+-- Of a class that shares its windows it is what `IsSharedAnswer` says, from the highest class down: which class above it has no bounds, or else the least
+-- bounds that hold for the arrival curves of its streams and of those above it, whatever is sent of those below it up to what the port takes. What they
+-- are worth is the law `shared_bounds::laws::every_run`.
+--
 -- For any other traffic (a frame with jitter, or of several lengths) it is what `IsWindowAnswer` says: for each stream the least time, and the least number
 -- of frames, that bound the late run, in which each frame comes as late as it may. What they are worth is the law `any_traffic::periodic_windows`.
+use Rattle.std.specs.List.{list_any}
 use Rattle.std.specs.Prelude.{ℕ, ◌+◌, ◌-◌, ◌^◌, ◌%◌, ◌⊎◌, ◌==◌, ◌≡◌, ◌<◌, length, map, min, nat_le, is_some, ◌&&◌, Bool, true, false, List, [], ◌∷◌, drop, slice_get, slice_set, slice_index_or, Option, Some, None, unwrap_or, Result, Ok, Err, if◌then◌else◌}
 use Rattle.gate_list.specs.Gate.{keeps_apart}
 use Rattle.abstract_port.specs.AbstractPort.{plan_asked}
@@ -41,6 +46,12 @@ use Rattle.gate_list.specs.Gate.{Plan}
 use Rattle.wire_time.specs.Moment.{greatest_moment}
 use Rattle.wire_time.specs.Wire.{occupancy_of}
 use Rattle.stream_bounds.specs.Classes.{are_any, are_equal, class_of, dropped_of, flow_of, has_any, has_inexact, jittered_of, most_sdu, streams_of, talker_of}
+use Rattle.stream_bounds.specs.Shared.{AreBeside, AreOpen, IsHighest, IsShared}
+use Rattle.stream_bounds.specs.Standing.{standing_of}
+use Rattle.shared_bounds.specs.declared.ClassTraffic.{ClassTraffic}
+use Rattle.shared_bounds.specs.declared.Unbound.{Unbound as SharedUnbound}
+use Rattle.shared_bounds.specs.declared.Unbound.TheVariants as SharedFaults
+use Rattle.stream_bounds.specs.declared.standing.Standing.{Standing}
 use Rattle.stream_bounds.specs.declared.settings.BoundsSettings.{BoundsSettings}
 use Rattle.stream_bounds.specs.declared.verdicts.Needs.{Needs}
 use Rattle.stream_bounds.specs.declared.verdicts.Place.{Place}
@@ -202,7 +213,50 @@ pub record IsWindowAnswer (s : BoundsSettings) (c : Change) (streams : List Stre
   pub are : AreWindows (plan_asked c) class (map (jittered_of s.port.rate (most_sdu s c class)) streams) s.frames told
   pub answered : IsAnswerWith s c streams class answer told
 
--- 4. A class
+-- 4. A class that shares its windows
+
+-- bounds, where there is room for as many frames as may wait
+abbrev pub shared_within : Bool → BurstBounds → List Stream → ClassAnswer
+shared_within true b streams = record { verdict = Verdicts.Sharing b; left = map (range_of b.wait) streams; slacks = [] }
+shared_within false b streams = unbounded (Verdicts.Crowded b.most)
+
+-- the answer about a class with these streams, with room for so many frames
+abbrev pub shared_answer : ℕ → List Stream → Result BurstBounds SharedUnbound → ClassAnswer
+shared_answer room streams (Ok b) = shared_within (nat_le b.most room) b streams
+shared_answer room streams (Err SharedFaults.Stuck) = unbounded Verdicts.NoWindow
+shared_answer room streams (Err SharedFaults.Blocked) = unbounded Verdicts.Blocked
+shared_answer room streams (Err why) = unbounded Verdicts.Long
+
+module _ (s : BoundsSettings) (c : Change) (table : List Stream) (above : List Standing) (streams : List Stream) (class : ℕ) (answer : ClassAnswer) where
+  -- by its least bounds beside the other classes, where those above it that share its windows have bounds or send nothing
+  pub record IsBoundedAnswer : Type 0 where
+    pub traffic : List ClassTraffic
+    pub beside : AreBeside s c table above streams class traffic
+    pub told : Result BurstBounds SharedUnbound
+    pub is : IsShared (plan_asked c) class traffic (burst_limit s + 1) told
+    pub answered : answer ≡ shared_answer s.port.room streams told
+
+  -- by whether one of those has none
+  abbrev pub IsAnswerBehind : Option ℕ → Type 0
+  IsAnswerBehind (Some other) = answer ≡ unbounded (Verdicts.Behind other)
+  IsAnswerBehind None = IsBoundedAnswer
+
+  pub record IsKnownAnswer : Type 0 where
+    pub behind : Option ℕ
+    pub highest : IsHighest (plan_asked c) above class behind
+    pub answered : IsAnswerBehind behind
+
+  -- by whether nothing is known of one of those
+  abbrev pub IsAnswerUnless : Bool → List Bool → Type 0
+  IsAnswerUnless true to = answer ≡ unbounded (Verdicts.Open to)
+  IsAnswerUnless false to = IsKnownAnswer
+
+  pub record IsSharedAnswer : Type 0 where
+    pub to : List Bool
+    pub are : AreOpen (plan_asked c) above class to
+    pub answered : IsAnswerUnless (list_any (λ is. is) to) to
+
+-- 5. A class
 
 -- the answer about a class that is kept apart, with these streams, by whether any frame may come at any moment, and whether any stream isn't exact
 abbrev pub IsApartAnswer : (anywhen inexact : Bool) → BoundsSettings → Change → List Stream → ℕ → ClassAnswer → Type 0
@@ -211,16 +265,18 @@ IsApartAnswer false true s c streams class answer = IsWindowAnswer s c streams c
 IsApartAnswer false false s c streams class answer = answer ≡ exact_answer s (plan_asked c) streams class
 
 -- the answer about a class with these streams, by whether it is kept apart
-abbrev pub IsAnswerBy : Bool → BoundsSettings → Change → List Stream → ℕ → ClassAnswer → Type 0
-IsAnswerBy apart s c [] class answer = answer ≡ idle
-IsAnswerBy false s c (x ∷ streams) class answer = answer ≡ unbounded Verdicts.Shared
-IsAnswerBy true s c (x ∷ streams) class answer = IsApartAnswer (has_any (x ∷ streams)) (has_inexact (x ∷ streams)) s c (x ∷ streams) class answer
+abbrev pub IsAnswerBy : Bool → BoundsSettings → Change → (table : List Stream) → (above : List Standing) → List Stream → ℕ → ClassAnswer → Type 0
+IsAnswerBy apart s c table above [] class answer = answer ≡ idle
+IsAnswerBy false s c table above (x ∷ streams) class answer = IsSharedAnswer s c table above (x ∷ streams) class answer
+IsAnswerBy true s c table above (x ∷ streams) class answer =
+    IsApartAnswer (has_any (x ∷ streams)) (has_inexact (x ∷ streams)) s c (x ∷ streams) class answer
 
--- the answer about a class with these streams, by its schedule
-abbrev pub IsOwnAnswer : BoundsSettings → Change → List Stream → ℕ → ClassAnswer → Type 0
-IsOwnAnswer s c streams class answer = IsAnswerBy (keeps_apart (plan_asked c).entries class) s c streams class answer
+-- The answer about a class with these streams, by its schedule, beside the streams of a table, and below classes that stand so.
+abbrev pub IsOwnAnswer : BoundsSettings → Change → (table : List Stream) → (above : List Standing) → List Stream → ℕ → ClassAnswer → Type 0
+IsOwnAnswer s c table above streams class answer =
+    IsAnswerBy (keeps_apart (plan_asked c).entries class) s c table above streams class answer
 
--- 5. A stream
+-- 6. A stream
 
 -- how long the shortest and the longest frame of a stream occupy the wire
 abbrev pub needs_of : ℕ → Stream → Needs
@@ -234,6 +290,7 @@ losing class alone = if alone then Delays.Unbounded class else Delays.Unsettled 
 abbrev pub delay_by : ℕ → Verdict → Bound → Delay
 delay_by class (Verdicts.Bounded most frames every) b = Delays.Exact class b
 delay_by class (Verdicts.Within most reached) b = Delays.Within class b reached
+delay_by class (Verdicts.Sharing bounds) b = Delays.Within class b false
 delay_by class (Verdicts.Full f alone) b = losing class alone
 delay_by class (Verdicts.Stuck never full) b = Delays.Unbounded class
 delay_by class Verdicts.Unfit b = Delays.Unbounded class
@@ -280,7 +337,7 @@ met_by needs (Delays.Unsettled class) deadline = Mets.Unknown
 met_by needs (Delays.Unknown class) deadline = Mets.Unknown
 met_by needs (Delays.Lost why) deadline = Mets.Missed
 
--- 6. The jitter that a stream may have
+-- 7. The jitter that a stream may have
 
 -- the stream with another jitter
 abbrev pub jittered : Stream → ℕ → Stream
@@ -296,55 +353,62 @@ is_met Mets.Met = true
 is_met _ = false
 
 -- The stream at a place of its class has this jitter, and all else is as it is: whether its deadline is met by a right answer.
-pub record IsMetWith (s : BoundsSettings) (c : Change) (streams : List Stream) (class place : ℕ) (x : Stream) (deadline jitter : ℕ) (met : Bool)
+pub record IsMetWith (s : BoundsSettings) (c : Change) (table : List Stream) (above : List Standing) (streams : List Stream) (class place : ℕ) (x : Stream) (deadline jitter : ℕ) (met : Bool)
     : Type 0 where
   pub answer : ClassAnswer
-  pub right : IsOwnAnswer s c (slice_set streams place (jittered x jitter)) class answer
+  pub right : IsOwnAnswer s c table above (slice_set streams place (jittered x jitter)) class answer
   pub so : met ≡ is_met (met_by (needs_of s.port.rate x) (delay_at s c x class answer place) deadline)
 
 -- it isn't met, or the jitter is no moment
-abbrev pub IsOver : BoundsSettings → Change → List Stream → (class place : ℕ) → Stream → (deadline jitter : ℕ) → Type 0
-IsOver s c streams class place x deadline jitter = IsMetWith s c streams class place x deadline jitter false ⊎ (greatest_moment < jitter)
+abbrev pub IsOver : BoundsSettings → Change → (table : List Stream) → (above : List Standing) → List Stream → (class place : ℕ) → Stream → (deadline jitter : ℕ) → Type 0
+IsOver s c table above streams class place x deadline jitter = IsMetWith s c table above streams class place x deadline jitter false ⊎ (greatest_moment < jitter)
 
 -- A jitter in whole nanoseconds with which the deadline is met, and with one nanosecond more it isn't; or it isn't with none.
-abbrev pub IsSlack : BoundsSettings → Change → List Stream → (class place : ℕ) → Stream → (deadline : ℕ) → Option ℕ → Type 0
-IsSlack s c streams class place x deadline None = IsMetWith s c streams class place x deadline 0 false
-IsSlack s c streams class place x deadline (Some jitter) =
-    IsMetWith s c streams class place x deadline jitter true × IsOver s c streams class place x deadline (jitter + 1000) × (jitter % 1000 ≡ 0)
+abbrev pub IsSlack : BoundsSettings → Change → (table : List Stream) → (above : List Standing) → List Stream → (class place : ℕ) → Stream → (deadline : ℕ) → Option ℕ → Type 0
+IsSlack s c table above streams class place x deadline None = IsMetWith s c table above streams class place x deadline 0 false
+IsSlack s c table above streams class place x deadline (Some jitter) =
+    IsMetWith s c table above streams class place x deadline jitter true × IsOver s c table above streams class place x deadline (jitter + 1000) × (jitter % 1000 ≡ 0)
 
 -- of a stream without a deadline none is told
-abbrev pub IsSlackOf : BoundsSettings → Change → List Stream → (class place : ℕ) → Stream → Option ℕ → Option ℕ → Type 0
-IsSlackOf s c streams class place x None slack = slack ≡ None
-IsSlackOf s c streams class place x (Some deadline) slack = IsSlack s c streams class place x deadline slack
+abbrev pub IsSlackOf : BoundsSettings → Change → (table : List Stream) → (above : List Standing) → List Stream → (class place : ℕ) → Stream → Option ℕ → Option ℕ → Type 0
+IsSlackOf s c table above streams class place x None slack = slack ≡ None
+IsSlackOf s c table above streams class place x (Some deadline) slack = IsSlack s c table above streams class place x deadline slack
 
 -- each stream of a class has the one at its place
-pub record AreSlacks (s : BoundsSettings) (c : Change) (streams : List Stream) (class : ℕ) (slacks : List (Option ℕ)) : Type 0 where
+pub record AreSlacks (s : BoundsSettings) (c : Change) (table : List Stream) (above : List Standing) (streams : List Stream) (class : ℕ) (slacks : List (Option ℕ)) : Type 0 where
   pub count : length slacks ≡ length streams
   pub each : (place : ℕ) (x : Stream) (slack : Option ℕ) → slice_get streams place ≡ Some x → slice_get slacks place ≡ Some slack
-      → IsSlackOf s c streams class place x x.deadline slack
+      → IsSlackOf s c table above streams class place x x.deadline slack
 
 -- where they are asked
-abbrev pub AreAskedSlacks : Bool → BoundsSettings → Change → List Stream → ℕ → List (Option ℕ) → Type 0
-AreAskedSlacks false s c streams class slacks = slacks ≡ []
-AreAskedSlacks true s c streams class slacks = AreSlacks s c streams class slacks
+abbrev pub AreAskedSlacks : Bool → BoundsSettings → Change → (table : List Stream) → (above : List Standing) → List Stream → ℕ → List (Option ℕ) → Type 0
+AreAskedSlacks false s c table above streams class slacks = slacks ≡ []
+AreAskedSlacks true s c table above streams class slacks = AreSlacks s c table above streams class slacks
 
--- 7. All classes
+-- 8. All classes
 
 abbrev pub with_slacks : ClassAnswer → List (Option ℕ) → ClassAnswer
 with_slacks a slacks = record { verdict = a.verdict; left = a.left; slacks = slacks }
 
--- the answer about a class, by its streams in a table
-pub record IsClassAnswer (s : BoundsSettings) (c : Change) (streams : List Stream) (class : ℕ) (answer : ClassAnswer) : Type 0 where
+-- the answer about a class, by its streams in a table, below classes that stand so
+pub record IsClassAnswer (s : BoundsSettings) (c : Change) (table : List Stream) (above : List Standing) (class : ℕ) (answer : ClassAnswer) : Type 0 where
   pub own : ClassAnswer
-  pub right : IsOwnAnswer s c (streams_of s c class streams) class own
-  pub slacks : AreAskedSlacks s.slack s c (streams_of s c class streams) class answer.slacks
+  pub right : IsOwnAnswer s c table above (streams_of s c class table) class own
+  pub slacks : AreAskedSlacks s.slack s c table above (streams_of s c class table) class answer.slacks
   pub answered : answer ≡ with_slacks own answer.slacks
+
+-- how classes from one on stand, by the answers about them
+abbrev pub standings_of : BoundsSettings → Change → List Stream → ℕ → List ClassAnswer → List Standing
+standings_of s c table class [] = []
+standings_of s c table class (answer ∷ answers) =
+    standing_of s c class (streams_of s c class table) answer.verdict ∷ standings_of s c table (class + 1) answers
 
 -- the answers about classes from one on
 abbrev pub AreAnswersFrom : BoundsSettings → Change → List Stream → ℕ → List ClassAnswer → Type 0
-AreAnswersFrom s c streams class [] = Unit {0}
-AreAnswersFrom s c streams class (answer ∷ answers) = IsClassAnswer s c streams class answer × AreAnswersFrom s c streams (class + 1) answers
+AreAnswersFrom s c table class [] = Unit {0}
+AreAnswersFrom s c table class (answer ∷ answers) =
+    IsClassAnswer s c table (standings_of s c table (class + 1) answers) class answer × AreAnswersFrom s c table (class + 1) answers
 
 -- the answers about all eight classes
 abbrev pub AreClassAnswers : BoundsSettings → Change → List Stream → List ClassAnswer → Type 0
-AreClassAnswers s c streams answers = (length answers ≡ 8) × AreAnswersFrom s c streams 0 answers
+AreClassAnswers s c table answers = (length answers ≡ 8) × AreAnswersFrom s c table 0 answers

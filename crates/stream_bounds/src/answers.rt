@@ -4,14 +4,17 @@ ghost use Rattle.std.specs.Prelude.{◌≡◌, ◌<◌, All, IfErr, IfOk, None, 
 ghost use Rattle.abstract_port.specs.AbstractPort.{plan_asked};
 ghost use Rattle.job.specs.declared.fault.Fault.TheVariants as Faults;
 ghost use Rattle.wire_time.specs.declared.TheConstants.{CLASSES};
-ghost use Rattle.stream_bounds.specs.Classes.{IsPeriodic};
+ghost use Rattle.stream_bounds.specs.Classes.{IsPeriodic, streams_of};
+ghost use Rattle.stream_bounds.specs.Standing.{IsCounted, standing_of};
 ghost use Rattle.stream_bounds.specs.Verdicts.{AreClassAnswers, IsClassAnswer, answer_at, delay_of, left_after, one_told, slack_at, slack_of, slack_told};
 
 use crate::class_answer::{ClassAnswer, own_answer};
 use crate::classes::streams_of;
 use crate::faults::BoundsFault;
 use crate::settings::BoundsSettings;
+use crate::shared::Beside;
 use crate::slack::slacks_of;
+use crate::standing::{Standing, standing_of};
 use crate::verdicts::{Delay, Verdict, delay_by};
 use abstract_port::{Change, Dropped};
 use delay_bounds::Bound;
@@ -21,26 +24,41 @@ use std::marker::Model;
 use traffic::Stream;
 use wire_time::CLASSES;
 
-/// The answer about a class.
+/// The answer about a class, and what it is for those below it.
+#[derive(Drop)]
+struct Judged {
+    answer: ClassAnswer,
+    standing: Standing,
+}
+
+/// The answer about a class, and what it is for those below it.
 fn class_answer(
     alloc: Global,
     settings: &BoundsSettings,
     change: &Change,
     schedule: &Schedule,
-    streams: &[Stream],
+    beside: Beside<'_>,
     class: u8,
-) -> Result<ClassAnswer, BoundsFault>
+) -> Result<Judged, BoundsFault>
     requires class { class < CLASSES }
     requires plan { schedule.now ≡ plan_asked change.now }
-    requires periodic { All IsPeriodic streams.now }
-    ensures answer { IfOk result (IsClassAnswer settings.now change.now streams.now class) }
+    requires periodic { All IsPeriodic beside.table.now }
+    requires counted { All IsCounted beside.above.now }
+    ensures answer { IfOk result (λ j. IsClassAnswer settings.now change.now beside.entry.table.now beside.entry.above.now class j.answer) }
+    ensures standing { IfOk result (λ j. j.standing ≡
+        standing_of settings.now change.now class (streams_of settings.now change.now class beside.entry.table.now) j.answer.verdict) }
+    ensures counted { IfOk result (λ j. IsCounted j.standing) }
     ensures memory { IfErr result (λ fault. fault ≡ Faults.Memory) }
 {
-    let own = streams_of(alloc, settings, change, streams, class)?;
+    let own = streams_of(alloc, settings, change, beside.table, class)?;
     let own = own.as_slice();
-    let answer = own_answer(alloc, settings, change, schedule, own, class)?;
-    let slacks = slacks_of(alloc, settings, change, schedule, own, class)?;
-    Ok(answer.with_slacks(slacks))
+    let answer = own_answer(alloc, settings, change, schedule, beside, own, class)?;
+    let slacks = slacks_of(alloc, settings, change, schedule, beside, own, class)?;
+    let standing = standing_of(settings, change, class, own, answer.verdict());
+    Ok(Judged {
+        answer: answer.with_slacks(slacks),
+        standing,
+    })
 }
 
 /// The answers about all classes.
@@ -59,28 +77,117 @@ impl Model for Answers {
     ghost view = { λ a. a.classes };
 }
 
-/// The answers about all classes, in an array.
+/// The answers about all classes, in an array, from the highest down.
 fn all_answers(
     alloc: Global,
     settings: &BoundsSettings,
     change: &Change,
     schedule: &Schedule,
-    streams: &[Stream],
+    table: &[Stream],
 ) -> Result<[ClassAnswer; CLASSES], BoundsFault>
     requires plan { schedule.now ≡ plan_asked change.now }
-    requires periodic { All IsPeriodic streams.now }
-    ensures answers { IfOk result (AreClassAnswers settings.now change.now streams.now) }
+    requires periodic { All IsPeriodic table.now }
+    ensures answers { IfOk result (AreClassAnswers settings.now change.now table.now) }
     ensures memory { IfErr result (λ fault. fault ≡ Faults.Memory) }
 {
+    let g = class_answer(
+        alloc,
+        settings,
+        change,
+        schedule,
+        Beside { table, above: &[] },
+        7,
+    )?;
+    let above = [g.standing];
+    let f = class_answer(
+        alloc,
+        settings,
+        change,
+        schedule,
+        Beside {
+            table,
+            above: &above,
+        },
+        6,
+    )?;
+    let above = [f.standing, g.standing];
+    let e = class_answer(
+        alloc,
+        settings,
+        change,
+        schedule,
+        Beside {
+            table,
+            above: &above,
+        },
+        5,
+    )?;
+    let above = [e.standing, f.standing, g.standing];
+    let d = class_answer(
+        alloc,
+        settings,
+        change,
+        schedule,
+        Beside {
+            table,
+            above: &above,
+        },
+        4,
+    )?;
+    let above = [d.standing, e.standing, f.standing, g.standing];
+    let c = class_answer(
+        alloc,
+        settings,
+        change,
+        schedule,
+        Beside {
+            table,
+            above: &above,
+        },
+        3,
+    )?;
+    let above = [c.standing, d.standing, e.standing, f.standing, g.standing];
+    let b = class_answer(
+        alloc,
+        settings,
+        change,
+        schedule,
+        Beside {
+            table,
+            above: &above,
+        },
+        2,
+    )?;
+    let above = [
+        b.standing, c.standing, d.standing, e.standing, f.standing, g.standing,
+    ];
+    let a = class_answer(
+        alloc,
+        settings,
+        change,
+        schedule,
+        Beside {
+            table,
+            above: &above,
+        },
+        1,
+    )?;
+    let above = [
+        a.standing, b.standing, c.standing, d.standing, e.standing, f.standing, g.standing,
+    ];
+    let z = class_answer(
+        alloc,
+        settings,
+        change,
+        schedule,
+        Beside {
+            table,
+            above: &above,
+        },
+        0,
+    )?;
     Ok([
-        class_answer(alloc, settings, change, schedule, streams, 0)?,
-        class_answer(alloc, settings, change, schedule, streams, 1)?,
-        class_answer(alloc, settings, change, schedule, streams, 2)?,
-        class_answer(alloc, settings, change, schedule, streams, 3)?,
-        class_answer(alloc, settings, change, schedule, streams, 4)?,
-        class_answer(alloc, settings, change, schedule, streams, 5)?,
-        class_answer(alloc, settings, change, schedule, streams, 6)?,
-        class_answer(alloc, settings, change, schedule, streams, 7)?,
+        z.answer, a.answer, b.answer, c.answer, d.answer, e.answer, f.answer, g.answer,
     ])
 }
 

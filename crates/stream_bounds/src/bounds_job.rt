@@ -1,10 +1,11 @@
 //! The program's job: the delays of streams, for ever.
 
-ghost use Rattle.std.specs.Prelude.{◌≡◌, None, Some};
+ghost use Rattle.std.specs.Prelude.{◌≡◌, ◌<◌, IfSome, None, Some, false};
 ghost use Rattle.octet_writer.specs.Buffered.{writer_contents};
 ghost use Rattle.script.specs.Given.{octets_of, words_of_values};
-ghost use Rattle.stream_bounds.specs.BoundsEnd.{IsBoundsEnding, IsBoundsRefusal, bounds_given, frames_where};
+ghost use Rattle.stream_bounds.specs.BoundsEnd.{IsBoundsEnding, IsBoundsRefusal, bounds_given, class_of_digit, frames_where, next_named, no_classes, read_classes, where_silent, with_named};
 ghost use Rattle.stream_bounds.specs.declared.settings.TheConstants.{MAX_FRAMES};
+ghost use Rattle.wire_time.specs.declared.TheConstants.{CLASSES};
 ghost use Rattle.words.specs.Numbers.{number_in};
 
 use crate::settings::{BoundsSettings, BoundsValue, MAX_FRAMES, say_bounds_value};
@@ -15,7 +16,7 @@ use schedule_check::given_map;
 use script::{BadValue, Values, Watch, settings_given};
 use std::alloc::{Allocator, Global};
 use std::io::{Read, Write};
-use wire_time::MAX_MOMENT;
+use wire_time::{CLASSES, MAX_MOMENT};
 use words::number;
 
 /// How many frames of a class are looked at, where no number is given.
@@ -34,6 +35,10 @@ pub struct BoundsWords<'a> {
     pub strict: bool,
     /// Whether it is told which jitter the streams with deadlines may have.
     pub slack: bool,
+    /// The classes that send nothing.
+    pub silent: Option<&'a str>,
+    /// Whether frames may wait from before the schedule.
+    pub leftovers: bool,
 }
 
 /// A number of frames that may be looked at.
@@ -48,10 +53,79 @@ fn read_frames(frames: &str) -> Option<u64>
     }
 }
 
+/// The class that a digit names, where it is one.
+fn class_of_digit(digit: u8) -> Option<u8>
+    ensures class { result ≡ class_of_digit digit }
+    ensures within { IfSome result (λ class. class < CLASSES) }
+{
+    if b'0' <= digit && digit <= b'7' {
+        Some(digit - b'0')
+    } else {
+        None
+    }
+}
+
+/// The classes that are named, with one more, which is not among them yet.
+fn with_named(named: [bool; CLASSES], class: Option<u8>) -> Option<[bool; CLASSES]>
+    requires { IfSome class (λ class. class < CLASSES) }
+    ensures { result ≡ with_named named class }
+{
+    let class = class? as usize;
+    let mut more = named;
+    if more[class] {
+        return None;
+    }
+    more[class] = true;
+    Some(more)
+}
+
+/// The classes that are named behind one octet more: a comma, where it stands behind a digit, and else a digit.
+fn next_named(named: [bool; CLASSES], behind: bool, octet: u8) -> Option<[bool; CLASSES]>
+    ensures { result ≡ next_named named behind octet }
+{
+    if !behind {
+        with_named(named, class_of_digit(octet))
+    } else if octet == b',' {
+        Some(named)
+    } else {
+        None
+    }
+}
+
+/// Which classes a text names: one digit each, with commas between them, and none twice.
+fn read_classes(text: &[u8]) -> Option<[bool; CLASSES]>
+    ensures { result ≡ read_classes no_classes false text.now }
+{
+    let mut named = [false; CLASSES];
+    let mut behind = false;
+    for octet in text {
+        match next_named(named, behind, *octet) {
+            Some(more) => named = more,
+            None => return None,
+        }
+        behind = !behind;
+    }
+    if behind { Some(named) } else { None }
+}
+
+/// The classes that send nothing, where any are given.
+fn given_silent(words: Option<&str>) -> Option<[bool; CLASSES]>
+    ensures { result ≡ where_silent (octets_of words.entry) }
+{
+    match words {
+        None => Some([false; CLASSES]),
+        Some(words) => read_classes(words.as_bytes()),
+    }
+}
+
 /// The settings of the values that are given, and of those that stand for the others. The first bad value is the fault.
 pub fn bounds_given(words: BoundsWords<'_>) -> Result<BoundsSettings, BoundsValue>
     ensures { result ≡ bounds_given (words_of_values words.entry.port) (octets_of words.entry.map)
-        (octets_of words.entry.frames) words.entry.strict words.entry.slack }
+        (octets_of words.entry.frames) (octets_of words.entry.silent) (record {
+          strict = words.entry.strict;
+          slack = words.entry.slack;
+          leftovers = words.entry.leftovers;
+        }) }
 {
     let port = match settings_given(words.port, MAX_MOMENT) {
         Ok(port) => port,
@@ -60,15 +134,20 @@ pub fn bounds_given(words: BoundsWords<'_>) -> Result<BoundsSettings, BoundsValu
     let Some(map) = given_map(words.map) else {
         return Err(BoundsValue::Port(BadValue::Map));
     };
-    match read_frames(words.frames.unwrap_or(FRAMES)) {
-        Some(frames) => Ok(BoundsSettings {
+    let Some(frames) = read_frames(words.frames.unwrap_or(FRAMES)) else {
+        return Err(BoundsValue::Frames);
+    };
+    match given_silent(words.silent) {
+        Some(silent) => Ok(BoundsSettings {
             port,
             map,
             frames,
             strict: words.strict,
             slack: words.slack,
+            silent,
+            leftovers: words.leftovers,
         }),
-        None => Err(BoundsValue::Frames),
+        None => Err(BoundsValue::Silent),
     }
 }
 

@@ -23,12 +23,13 @@ use crate::busy::tell_busy;
 use crate::class_lines::{find_class, put_classes};
 use crate::faults::{Answered, BoundsFault, Finding};
 use crate::notes::tell_bases;
+use crate::premise_lines::put_premises;
 use crate::settings::BoundsSettings;
 use crate::stream_lines::{first_of, put_streams};
 use abstract_port::{Change, Command, Refused};
 use answer_text::{WriteFault, put_refused, put_tc_fault};
 use gate_list::Schedule;
-use schedule_check::{class_count, classes_apart, early_refusal, map_after, put_apart};
+use schedule_check::{early_refusal, put_apart};
 use script::{Watch, read_tc};
 use std::alloc::Global;
 use std::io::Write;
@@ -63,8 +64,7 @@ fn put_answers<W: Write>(
       judged = true;
     }) }
 {
-    let count = class_count(map_after(settings.map, change.map));
-    put_apart(writer, &classes_apart(schedule, count))?;
+    put_premises(writer, settings, change, schedule, streams)?;
     put_classes(writer, settings.port.room(), answers)?;
     let of_classes = find_class(answers);
     let of_streams = put_streams(writer, settings, change, answers, streams)?;

@@ -8,6 +8,7 @@ ghost use Rattle.burst_bounds.specs.declared.Unbound.TheVariants as BurstFaults;
 ghost use Rattle.delay_bounds.specs.Bounded.{Answer};
 ghost use Rattle.window_bounds.specs.declared.Unbound.TheVariants as WindowFaults;
 ghost use Rattle.stream_bounds.specs.Classes.{IsPeriodic, has_any, has_inexact};
+ghost use Rattle.stream_bounds.specs.Standing.{IsCounted};
 ghost use Rattle.stream_bounds.specs.TableRead.{IsAnswered};
 ghost use Rattle.stream_bounds.specs.Verdicts.{IsApartAnswer, IsBurstAnswer, IsAnswerWith, IsOwnAnswer, IsWindowAnswer, apart_answer, burst_answer, exact_answer, unbounded, windows_of, with_slacks, within_room};
 
@@ -17,6 +18,7 @@ use crate::classes::{
 };
 use crate::faults::BoundsFault;
 use crate::settings::BoundsSettings;
+use crate::shared::{Beside, sharing_answer};
 use crate::verdicts::{Verdict, verdict_of};
 use abstract_port::Change;
 use burst_bounds::{Bounds as BurstBounds, Unbound as BurstUnbound, burst_bounds};
@@ -257,7 +259,7 @@ fn any_answer(
 }
 
 /// A class without bounds.
-fn unbounded(alloc: Global, verdict: Verdict) -> ClassAnswer
+pub fn unbounded(alloc: Global, verdict: Verdict) -> ClassAnswer
     ensures { result ≡ unbounded verdict }
 {
     ClassAnswer::new(alloc, verdict, Vec::new(alloc))
@@ -324,7 +326,7 @@ fn window_answer(
 }
 
 /// The answer about a class with these streams, in a schedule that keeps it apart.
-fn kept_answer(
+pub fn kept_answer(
     alloc: Global,
     settings: &BoundsSettings,
     change: &Change,
@@ -349,26 +351,31 @@ fn kept_answer(
     }
 }
 
-/// The answer about a class with these streams.
+/// The answer about a class with these streams, beside the others.
 pub fn own_answer(
     alloc: Global,
     settings: &BoundsSettings,
     change: &Change,
     schedule: &Schedule,
+    beside: Beside<'_>,
     streams: &[Stream],
     class: u8,
 ) -> Result<ClassAnswer, BoundsFault>
     requires class { class < CLASSES }
     requires plan { schedule.now ≡ plan_asked change.now }
     requires periodic { All IsPeriodic streams.now }
-    ensures answer { IfOk result (λ a. IsOwnAnswer settings.now change.now streams.now class a) }
+    requires table { All IsPeriodic beside.table.now }
+    requires counted { All IsCounted beside.above.now }
+    ensures answer { IfOk result (λ a.
+        IsOwnAnswer settings.now change.now beside.entry.table.now beside.entry.above.now streams.now class a) }
     ensures memory { IfErr result (λ fault. fault ≡ Faults.Memory) }
 {
     if streams.len() == 0 {
         return Ok(unbounded(alloc, Verdict::Idle));
     }
-    if !schedule.keeps_apart(class) {
-        return Ok(unbounded(alloc, Verdict::Shared));
+    if schedule.keeps_apart(class) {
+        kept_answer(alloc, settings, change, schedule, streams, class)
+    } else {
+        sharing_answer(alloc, settings, change, schedule, beside, streams, class)
     }
-    kept_answer(alloc, settings, change, schedule, streams, class)
 }

@@ -2,7 +2,7 @@
 
 ghost use Rattle.std.specs.Prelude.{◌≡◌, Some};
 ghost use Rattle.octet_writer.specs.Writes.{Writes};
-ghost use Rattle.stream_bounds.specs.BoundLines.{bounded_line, class_finding, class_finding_in, class_head, class_line, class_lines, full_end, full_line, place_text, stuck_line, within_line, word_line};
+ghost use Rattle.stream_bounds.specs.BoundLines.{behind_line, bounded_line, class_finding, class_finding_in, class_head, class_line, class_lines, flag_text, flag_texts, flagged_line, full_end, full_line, open_line, place_text, stuck_line, within_line, word_line};
 ghost use Rattle.wire_time.specs.declared.TheConstants.{CLASSES};
 
 use crate::answers::Answers;
@@ -143,6 +143,64 @@ fn put_within<W: Write>(writer: &mut W, class: u8, room: u32, most: u64) -> Resu
     )
 }
 
+/// Writes a class, where it is meant.
+fn put_flag<W: Write>(writer: &mut W, is: bool, class: u8) -> Result<(), WriteFault>
+    ensures { Writes result (W.contents writer.old) (W.contents writer.new) (flag_text is class) }
+{
+    if is {
+        put_parts(writer, &[Part::Text(b" "), Part::Number(u128::from(class))])
+    } else {
+        put_parts(writer, &[])
+    }
+}
+
+/// Writes those of the classes that are meant, in rising order.
+fn put_flags<W: Write>(writer: &mut W, flags: &[bool; CLASSES]) -> Result<(), WriteFault>
+    ensures { Writes result (W.contents writer.old) (W.contents writer.new) (flag_texts flags.now CLASSES 0) }
+{
+    for class in 0..CLASSES as u8 {
+        put_flag(writer, flags[class as usize], class)?;
+    }
+    Ok(())
+}
+
+/// Writes those of the classes that are meant, in rising order, behind some words, to the end of the line.
+pub fn put_flagged<W: Write>(
+    writer: &mut W,
+    words: &[u8],
+    flags: &[bool; CLASSES],
+) -> Result<(), WriteFault>
+    ensures { Writes result (W.contents writer.old) (W.contents writer.new) (flagged_line words.now flags.now) }
+{
+    put(writer, words)?;
+    put_flags(writer, flags)?;
+    put(writer, b"\n")
+}
+
+/// Writes the line of a class that is open to others above it.
+fn put_open<W: Write>(writer: &mut W, class: u8, to: &[bool; CLASSES]) -> Result<(), WriteFault>
+    ensures { Writes result (W.contents writer.old) (W.contents writer.new) (open_line class to.now) }
+{
+    put_head(writer, class)?;
+    put_flagged(writer, b" open to", to)
+}
+
+/// Writes the line of a class behind one that has no bounds.
+fn put_behind<W: Write>(writer: &mut W, class: u8, other: u8) -> Result<(), WriteFault>
+    ensures { Writes result (W.contents writer.old) (W.contents writer.new) (behind_line class other) }
+{
+    put_parts(
+        writer,
+        &[
+            Part::Text(b"class "),
+            Part::Number(u128::from(class)),
+            Part::Text(b" behind "),
+            Part::Number(u128::from(other)),
+            Part::Text(b"\n"),
+        ],
+    )
+}
+
 /// Writes the line of a class, where it has streams.
 fn put_class<W: Write>(
     writer: &mut W,
@@ -154,7 +212,11 @@ fn put_class<W: Write>(
 {
     match verdict {
         Verdict::Idle => put_parts(writer, &[]),
-        Verdict::Shared => put_word(writer, class, b" shared"),
+        Verdict::Open { to } => put_open(writer, class, &to),
+        Verdict::Behind(other) => put_behind(writer, class, other),
+        Verdict::Sharing(bounds) => put_within(writer, class, room, bounds.most as u64),
+        Verdict::NoWindow => put_word(writer, class, b" stuck"),
+        Verdict::Blocked => put_word(writer, class, b" blocked"),
         Verdict::Bounded {
             most,
             frames,
@@ -187,10 +249,11 @@ fn class_finding(class: u8, verdict: Verdict) -> Option<Finding>
 {
     match verdict {
         Verdict::Full { .. } => Some(Finding::Full(class)),
-        Verdict::Stuck { .. } | Verdict::Unfit => Some(Finding::Stuck(class)),
+        Verdict::Stuck { .. } | Verdict::Unfit | Verdict::NoWindow => Some(Finding::Stuck(class)),
         Verdict::Overloaded { .. } => Some(Finding::Overloaded(class)),
         Verdict::Bounded { .. } | Verdict::Within { .. } | Verdict::Crowded { .. } => None,
-        Verdict::Idle | Verdict::Shared | Verdict::Long | Verdict::Late => None,
+        Verdict::Sharing(_) | Verdict::Open { .. } | Verdict::Behind(_) | Verdict::Blocked => None,
+        Verdict::Idle | Verdict::Long | Verdict::Late => None,
     }
 }
 

@@ -1,13 +1,13 @@
 //! Which streams are of which class, and what they are as flows.
 
-ghost use Rattle.std.specs.Prelude.{◌≡◌, ◌<◌, All, IfErr, IfOk, IfSome, map};
+ghost use Rattle.std.specs.Prelude.{◌≡◌, ◌<◌, ◌≤◌, All, IfErr, IfOk, IfSome, map};
 ghost use Rattle.abstract_port.specs.AbstractPort.{class_for, limit_of, verdict};
 ghost use Rattle.wire_time.specs.declared.TheConstants.{CLASSES};
 ghost use Rattle.burst_bounds.specs.Talkers.{IsTalker};
 ghost use Rattle.delay_bounds.specs.Claim.{IsFlow};
 ghost use Rattle.window_bounds.specs.Flows.{IsFlow as IsJittered};
 ghost use Rattle.job.specs.declared.fault.Fault.TheVariants as Faults;
-ghost use Rattle.stream_bounds.specs.Classes.{are_any, are_equal, class_of, dropped_of, first_len, flow_of, frame_of, has_any, has_inexact, has_len, header, is_any, jittered_of, is_class, is_exact, len_within, most_sdu, port_of, streams_of, talker_of, whole_len, IsPeriodic};
+ghost use Rattle.stream_bounds.specs.Classes.{are_any, are_equal, class_of, dropped_of, first_len, flow_of, frame_of, has_any, has_inexact, has_len, header, is_any, jittered_of, is_class, is_exact, len_within, most_sdu, port_of, streams_of, talker_of, whole_len, IsPeriodic, IsShort};
 ghost use Rattle.stream_bounds.specs.Verdicts.{late_by, range_of};
 
 use crate::faults::BoundsFault;
@@ -117,7 +117,8 @@ pub fn dropped_of(settings: &BoundsSettings, change: &Change, stream: &Stream) -
 /// The greatest service data unit that a class takes, in octets.
 pub fn most_sdu(settings: &BoundsSettings, change: &Change, class: u8) -> u32
     requires { class < CLASSES }
-    ensures { result ≡ most_sdu settings.now change.now class }
+    ensures most { result ≡ most_sdu settings.now change.now class }
+    ensures within { result ≤ settings.now.port.mtu }
 {
     let limit = limit_of(settings, change, class);
     if limit == 0 {
@@ -128,7 +129,7 @@ pub fn most_sdu(settings: &BoundsSettings, change: &Change, class: u8) -> u32
 }
 
 /// Whether that is this class.
-fn is_class(class: u8, found: Result<u8, Dropped>) -> bool
+pub fn is_class(class: u8, found: Result<u8, Dropped>) -> bool
     ensures { result ≡ is_class class found }
 {
     match found {
@@ -215,6 +216,7 @@ fn talker_of(rate: Rate, sdu: u32, stream: &Stream) -> Talker
     requires { IsPeriodic stream.now }
     ensures talker { result ≡ talker_of rate sdu stream.now }
     ensures fits { IsTalker result }
+    ensures short { IsShort result }
 {
     Talker {
         need: occupancy(rate, len_within(sdu, stream)),
@@ -233,6 +235,7 @@ pub fn talkers_of<A: Allocator>(
     requires { All IsPeriodic streams.now }
     ensures talkers { IfOk result (λ talkers. talkers.items ≡ map (talker_of rate sdu) streams.now) }
     ensures fit { IfOk result (λ talkers. All IsTalker talkers.items) }
+    ensures short { IfOk result (λ talkers. All IsShort talkers.items) }
     ensures memory { IfErr result (λ fault. fault ≡ Faults.Memory) }
 {
     let mut talkers = Vec::new(alloc);

@@ -6,14 +6,17 @@ ghost use Rattle.stream_bounds.specs.Classes.{IsPeriodic};
 ghost use Rattle.wire_time.specs.declared.TheConstants.{CLASSES};
 
 use crate::answers::Answers;
-use crate::class_answer::own_answer;
+use crate::class_answer::kept_answer;
 use crate::classes::{has_inexact, jittered_flows_of, most_sdu, streams_of};
 use crate::settings::BoundsSettings;
+use crate::shared::widest;
+use crate::standing::may_send;
 use crate::stream_lines::needs_of;
 use crate::verdicts::{Verdict, plus};
 use abstract_port::Change;
-use gate_list::Schedule;
-use script::{Basis, Watch};
+use gate_list::{GateList, Schedule, is_open};
+use script::{Basis, Sharers, Watch};
+use shared_bounds::sharing::shares_windows;
 use std::alloc::Global;
 use traffic::Stream;
 use window_bounds::{Unbound, window_bounds};
@@ -95,7 +98,10 @@ fn basis_of(
 fn has_bounds(verdict: Verdict) -> bool {
     matches!(
         verdict,
-        Verdict::Bounded { .. } | Verdict::Within { .. } | Verdict::Crowded { .. }
+        Verdict::Bounded { .. }
+            | Verdict::Within { .. }
+            | Verdict::Sharing(_)
+            | Verdict::Crowded { .. }
     )
 }
 
@@ -118,7 +124,10 @@ fn tell_without<H: Watch>(
         return;
     };
     let known = known.as_slice();
-    let Ok(answer) = own_answer(alloc, settings, change, schedule, known, class) else {
+    if known.len() == 0 {
+        return;
+    }
+    let Ok(answer) = kept_answer(alloc, settings, change, schedule, known, class) else {
         return;
     };
     for place in 0..known.len() {
@@ -128,6 +137,74 @@ fn tell_without<H: Watch>(
         let needs = needs_of(settings.port.rate(), &known[place]);
         watch.ends_without(known[place].first_id, plus(bound.greatest, needs.longest));
     }
+}
+
+/// For how long a frame of a lower class may be in the way of a class that shares windows with it, in picoseconds.
+fn blocked_by(
+    alloc: Global,
+    settings: &BoundsSettings,
+    change: &Change,
+    schedule: &Schedule,
+    table: &[Stream],
+    class: u8,
+    other: u8,
+) -> u128
+    requires class { class < CLASSES }
+    requires other { other < CLASSES }
+    requires periodic { All IsPeriodic table.now }
+{
+    if other >= class || !shares_windows(schedule, class, other) {
+        return 0;
+    }
+    let Ok(its) = streams_of(alloc, settings, change, table, other) else {
+        return 0;
+    };
+    if its.len() > 0 || may_send(settings, change, other) {
+        widest(settings, change, other)
+    } else {
+        0
+    }
+}
+
+/// The first entry, from 1, that opens a class and another one.
+fn first_shared(list: &GateList, class: u8) -> u32
+    requires { class < CLASSES }
+{
+    let mut number: u32 = 0;
+    for entry in list.entries() {
+        number = number.saturating_add(1);
+        if is_open(entry.mask, class) && entry.mask.count_ones() > 1 {
+            return number;
+        }
+    }
+    number
+}
+
+/// With which classes a class shares windows.
+fn sharers_of(
+    alloc: Global,
+    settings: &BoundsSettings,
+    change: &Change,
+    schedule: &Schedule,
+    table: &[Stream],
+    class: u8,
+) -> Sharers
+    requires class { class < CLASSES }
+    requires periodic { All IsPeriodic table.now }
+{
+    let mut sharers = Sharers {
+        classes: [false; CLASSES],
+        entry: first_shared(&change.list, class),
+        blocking: 0,
+    };
+    for other in 0..CLASSES as u8 {
+        if other != class && shares_windows(schedule, class, other) {
+            sharers.classes[other as usize] = true;
+        }
+        let blocking = blocked_by(alloc, settings, change, schedule, table, class, other);
+        sharers.blocking = sharers.blocking.max(blocking);
+    }
+    sharers
 }
 
 /// Tells who watches by what the bounds of a class are found.
@@ -150,6 +227,11 @@ fn tell_basis<H: Watch>(
     };
     let own = own.as_slice();
     if own.len() == 0 {
+        return;
+    }
+    if !schedule.keeps_apart(class) {
+        let sharers = sharers_of(alloc, settings, change, schedule, streams, class);
+        watch.class_judged(number, class, Basis::Shared(sharers));
         return;
     }
     let basis = basis_of(alloc, settings, change, schedule, own, class);

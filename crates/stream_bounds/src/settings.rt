@@ -9,6 +9,7 @@ use job::{Ended, ValueKind};
 use octet_writer::put;
 use script::{BadValue, Settings, put_value};
 use std::io::Write;
+use wire_time::CLASSES;
 
 /// The greatest number of frames that may be asked for.
 pub const MAX_FRAMES: u64 = 1_000_000_000;
@@ -26,6 +27,10 @@ pub struct BoundsSettings {
     pub strict: bool,
     /// Whether it is told which jitter the streams with deadlines may have.
     pub slack: bool,
+    /// Of each class whether it sends nothing, where it has no streams.
+    pub silent: [bool; CLASSES],
+    /// Whether frames may wait from before the schedule came into force, of any class that isn't silent.
+    pub leftovers: bool,
 }
 
 /// The first value that is bad.
@@ -35,6 +40,8 @@ pub enum BoundsValue {
     Port(BadValue),
     /// The number of frames is not 1 to `MAX_FRAMES`.
     Frames,
+    /// The silent classes are not such, each once.
+    Silent,
 }
 
 impl BoundsValue {
@@ -45,6 +52,7 @@ impl BoundsValue {
         match self {
             BoundsValue::Port(value) => value.kind(),
             BoundsValue::Frames => ValueKind::Frames,
+            BoundsValue::Silent => ValueKind::Silent,
         }
     }
 }
@@ -57,6 +65,7 @@ pub fn say_bounds_value<W: Write>(value: &BoundsValue, writer: &mut W) -> Ended
     let told = match *value {
         BoundsValue::Port(value) => put_value(writer, value).is_ok(),
         BoundsValue::Frames => put(writer, b"taprio_port: bad value of --frames\n").is_ok(),
+        BoundsValue::Silent => put(writer, b"taprio_port: bad value of --silent\n").is_ok(),
     };
     Ended { status: 2, told }
 }

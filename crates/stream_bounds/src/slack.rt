@@ -4,6 +4,7 @@ ghost use Rattle.std.specs.Prelude.{◌≡◌, ◌<◌, ◌≤◌, ◌+◌, ◌*
 ghost use Rattle.abstract_port.specs.AbstractPort.{plan_asked};
 ghost use Rattle.job.specs.declared.fault.Fault.TheVariants as Faults;
 ghost use Rattle.stream_bounds.specs.Classes.{IsPeriodic};
+ghost use Rattle.stream_bounds.specs.Standing.{IsCounted};
 ghost use Rattle.stream_bounds.specs.Verdicts.{AreAskedSlacks, AreSlacks, IsMetWith, IsOver, IsSlack, IsSlackOf, delay_at, is_met, jittered};
 ghost use Rattle.stream_bounds.specs.declared.slack.TheConstants.{GREATEST};
 ghost use Rattle.traffic.specs.declared.table.Stream.{Stream};
@@ -14,6 +15,7 @@ use crate::class_answer::{ClassAnswer, own_answer};
 use crate::classes::dropped_of;
 use crate::faults::BoundsFault;
 use crate::settings::BoundsSettings;
+use crate::shared::Beside;
 use crate::stream_lines::{needs_of, unless_dropped};
 use crate::verdicts::{Delay, Met, Needs, delay_by, met_by};
 use abstract_port::Change;
@@ -32,6 +34,7 @@ struct Case<'a> {
     settings: &'a BoundsSettings,
     change: &'a Change,
     schedule: &'a Schedule,
+    beside: Beside<'a>,
     streams: &'a [Stream],
     class: u8,
     place: usize,
@@ -106,9 +109,12 @@ fn is_met_with(alloc: Global, case: &Case<'_>, jitter: u128) -> Result<bool, Bou
     requires class { case.now.class < CLASSES }
     requires plan { case.now.schedule.now ≡ plan_asked case.now.change.now }
     requires periodic { All IsPeriodic case.now.streams.now }
+    requires table { All IsPeriodic case.now.beside.table.now }
+    requires counted { All IsCounted case.now.beside.above.now }
     requires stream { slice_get case.now.streams.now case.now.place ≡ Some case.now.stream }
     requires jitter { jitter ≤ greatest_moment }
-    ensures met { IfOk result (λ met. IsMetWith case.now.settings.now case.now.change.now case.now.streams.now
+    ensures met { IfOk result (λ met. IsMetWith case.now.settings.now case.now.change.now case.now.beside.table.now case.now.beside.above.now
+        case.now.streams.now
         case.now.class case.now.place case.now.stream case.now.deadline jitter met) }
     ensures memory { IfErr result (λ fault. fault ≡ Faults.Memory) }
 {
@@ -119,6 +125,7 @@ fn is_met_with(alloc: Global, case: &Case<'_>, jitter: u128) -> Result<bool, Bou
         case.settings,
         case.change,
         case.schedule,
+        case.beside,
         other.as_slice(),
         case.class,
     )?;
@@ -146,14 +153,19 @@ fn narrowed(alloc: Global, case: &Case<'_>, met: u64, over: u64) -> Result<u64, 
     requires class { case.now.class < CLASSES }
     requires plan { case.now.schedule.now ≡ plan_asked case.now.change.now }
     requires periodic { All IsPeriodic case.now.streams.now }
+    requires table { All IsPeriodic case.now.beside.table.now }
+    requires counted { All IsCounted case.now.beside.above.now }
     requires stream { slice_get case.now.streams.now case.now.place ≡ Some case.now.stream }
     requires order { met < over }
     requires within { over ≤ GREATEST + 1 }
-    requires met { IsMetWith case.now.settings.now case.now.change.now case.now.streams.now
+    requires met { IsMetWith case.now.settings.now case.now.change.now case.now.beside.table.now case.now.beside.above.now
+        case.now.streams.now
         case.now.class case.now.place case.now.stream case.now.deadline (met * 1000) true }
-    requires over { IsOver case.now.settings.now case.now.change.now case.now.streams.now
+    requires over { IsOver case.now.settings.now case.now.change.now case.now.beside.table.now case.now.beside.above.now
+        case.now.streams.now
         case.now.class case.now.place case.now.stream case.now.deadline (over * 1000) }
-    ensures slack { IfOk result (λ found. IsSlack case.now.settings.now case.now.change.now case.now.streams.now
+    ensures slack { IfOk result (λ found. IsSlack case.now.settings.now case.now.change.now case.now.beside.table.now case.now.beside.above.now
+        case.now.streams.now
         case.now.class case.now.place case.now.stream case.now.deadline (Some (found * 1000))) }
     ensures memory { IfErr result (λ fault. fault ≡ Faults.Memory) }
 {
@@ -176,12 +188,16 @@ fn found_from(alloc: Global, case: &Case<'_>, guess: u64) -> Result<u64, BoundsF
     requires class { case.now.class < CLASSES }
     requires plan { case.now.schedule.now ≡ plan_asked case.now.change.now }
     requires periodic { All IsPeriodic case.now.streams.now }
+    requires table { All IsPeriodic case.now.beside.table.now }
+    requires counted { All IsCounted case.now.beside.above.now }
     requires stream { slice_get case.now.streams.now case.now.place ≡ Some case.now.stream }
     requires above { 0 < guess }
     requires within { guess ≤ GREATEST }
-    requires met { IsMetWith case.now.settings.now case.now.change.now case.now.streams.now
+    requires met { IsMetWith case.now.settings.now case.now.change.now case.now.beside.table.now case.now.beside.above.now
+        case.now.streams.now
         case.now.class case.now.place case.now.stream case.now.deadline 0 true }
-    ensures slack { IfOk result (λ found. IsSlack case.now.settings.now case.now.change.now case.now.streams.now
+    ensures slack { IfOk result (λ found. IsSlack case.now.settings.now case.now.change.now case.now.beside.table.now case.now.beside.above.now
+        case.now.streams.now
         case.now.class case.now.place case.now.stream case.now.deadline (Some (found * 1000))) }
     ensures memory { IfErr result (λ fault. fault ≡ Faults.Memory) }
 {
@@ -197,8 +213,11 @@ fn slack_of(alloc: Global, case: &Case<'_>) -> Result<Option<u128>, BoundsFault>
     requires class { case.now.class < CLASSES }
     requires plan { case.now.schedule.now ≡ plan_asked case.now.change.now }
     requires periodic { All IsPeriodic case.now.streams.now }
+    requires table { All IsPeriodic case.now.beside.table.now }
+    requires counted { All IsCounted case.now.beside.above.now }
     requires stream { slice_get case.now.streams.now case.now.place ≡ Some case.now.stream }
-    ensures slack { IfOk result (IsSlack case.now.settings.now case.now.change.now case.now.streams.now
+    ensures slack { IfOk result (IsSlack case.now.settings.now case.now.change.now case.now.beside.table.now case.now.beside.above.now
+        case.now.streams.now
         case.now.class case.now.place case.now.stream case.now.deadline) }
     ensures memory { IfErr result (λ fault. fault ≡ Faults.Memory) }
 {
@@ -217,6 +236,7 @@ fn slack_at(
     settings: &BoundsSettings,
     change: &Change,
     schedule: &Schedule,
+    beside: Beside<'_>,
     streams: &[Stream],
     class: u8,
     place: usize,
@@ -224,9 +244,11 @@ fn slack_at(
     requires class { class < CLASSES }
     requires plan { schedule.now ≡ plan_asked change.now }
     requires periodic { All IsPeriodic streams.now }
+    requires table { All IsPeriodic beside.table.now }
+    requires counted { All IsCounted beside.above.now }
     requires place { place < length streams.now }
     ensures slack { IfOk result (λ slack. (x : Stream) → slice_get streams.now place ≡ Some x
-        → IsSlackOf settings.now change.now streams.now class place x x.deadline slack) }
+        → IsSlackOf settings.now change.now beside.entry.table.now beside.entry.above.now streams.now class place x x.deadline slack) }
     ensures memory { IfErr result (λ fault. fault ≡ Faults.Memory) }
 {
     let stream = stream_at(streams, place);
@@ -237,6 +259,7 @@ fn slack_at(
         settings,
         change,
         schedule,
+        beside,
         streams,
         class,
         place,
@@ -252,18 +275,23 @@ fn all_slacks(
     settings: &BoundsSettings,
     change: &Change,
     schedule: &Schedule,
+    beside: Beside<'_>,
     streams: &[Stream],
     class: u8,
 ) -> Result<Vec<Option<u128>, Global>, BoundsFault>
     requires class { class < CLASSES }
     requires plan { schedule.now ≡ plan_asked change.now }
     requires periodic { All IsPeriodic streams.now }
-    ensures slacks { IfOk result (λ slacks. AreSlacks settings.now change.now streams.now class slacks.items) }
+    requires table { All IsPeriodic beside.table.now }
+    requires counted { All IsCounted beside.above.now }
+    ensures slacks { IfOk result (λ slacks. AreSlacks settings.now change.now beside.entry.table.now beside.entry.above.now streams.now class slacks.items) }
     ensures memory { IfErr result (λ fault. fault ≡ Faults.Memory) }
 {
     let mut slacks = Vec::new(alloc);
     for place in 0..streams.len() {
-        let slack = slack_at(alloc, settings, change, schedule, streams, class, place)?;
+        let slack = slack_at(
+            alloc, settings, change, schedule, beside, streams, class, place,
+        )?;
         match slacks.push(slack) {
             Ok(()) => {}
             Err(_) => return Err(BoundsFault::Memory),
@@ -279,18 +307,21 @@ pub fn slacks_of(
     settings: &BoundsSettings,
     change: &Change,
     schedule: &Schedule,
+    beside: Beside<'_>,
     streams: &[Stream],
     class: u8,
 ) -> Result<Vec<Option<u128>, Global>, BoundsFault>
     requires class { class < CLASSES }
     requires plan { schedule.now ≡ plan_asked change.now }
     requires periodic { All IsPeriodic streams.now }
+    requires table { All IsPeriodic beside.table.now }
+    requires counted { All IsCounted beside.above.now }
     ensures slacks { IfOk result (λ slacks.
-        AreAskedSlacks settings.now.slack settings.now change.now streams.now class slacks.items) }
+        AreAskedSlacks settings.now.slack settings.now change.now beside.entry.table.now beside.entry.above.now streams.now class slacks.items) }
     ensures memory { IfErr result (λ fault. fault ≡ Faults.Memory) }
 {
     if settings.slack {
-        all_slacks(alloc, settings, change, schedule, streams, class)
+        all_slacks(alloc, settings, change, schedule, beside, streams, class)
     } else {
         Ok(Vec::new(alloc))
     }

@@ -4,7 +4,9 @@ ghost use Rattle.std.specs.Prelude.{◌≡◌, Err};
 ghost use Rattle.stream_bounds.specs.Verdicts.{delay_by, full_behind, is_alone, losing, met_by, met_within, place_of, plus, verdict_of};
 
 use abstract_port::Dropped;
+use burst_bounds::Bounds;
 use delay_bounds::{Bound, Refused, Unbound};
+use wire_time::CLASSES;
 
 /// A frame that finds no room, or never starts.
 #[derive(Clone, Copy, Debug, PartialEq, Eq)]
@@ -31,8 +33,20 @@ pub struct Needs {
 pub enum Verdict {
     /// It has no streams.
     Idle,
-    /// It isn't kept apart.
-    Shared,
+    /// It shares windows with these classes above it, of which nothing is known but that they may send.
+    Open {
+        to: [bool; CLASSES],
+    },
+    /// It shares windows with this class above it, the highest that has streams and no bounds.
+    Behind(u8),
+    /// It shares its windows, and its delays have bounds, whenever its frames come: the longest wait, in picoseconds, and
+    /// the most frames that may wait at once.
+    Sharing(Bounds),
+    /// It shares its windows, and none takes its longest frame.
+    NoWindow,
+    /// It shares its windows, and none takes its longest frame behind one of another class that may have the wire when
+    /// it opens.
+    Blocked,
     /// Its delays are known: the most frames that ever wait at once, and how many frames come in how many picoseconds.
     Bounded {
         most: usize,
@@ -174,9 +188,12 @@ pub fn delay_by(class: u8, verdict: Verdict, bound: Bound) -> Delay
     match verdict {
         Verdict::Bounded { .. } => Delay::Exact(class, bound),
         Verdict::Within { reached, .. } => Delay::Within(class, bound, reached),
+        Verdict::Sharing(_) => Delay::Within(class, bound, false),
         Verdict::Stuck { .. } | Verdict::Unfit => Delay::Unbounded(class),
         Verdict::Full { alone, .. } | Verdict::Overloaded { alone } => losing(class, alone),
-        Verdict::Idle | Verdict::Shared | Verdict::Crowded { .. } => Delay::Unknown(class),
+        Verdict::Open { .. } | Verdict::Behind(_) => Delay::Unknown(class),
+        Verdict::NoWindow | Verdict::Blocked => Delay::Unknown(class),
+        Verdict::Idle | Verdict::Crowded { .. } => Delay::Unknown(class),
         Verdict::Long | Verdict::Late => Delay::Unknown(class),
     }
 }

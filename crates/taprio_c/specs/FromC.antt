@@ -1,5 +1,6 @@
 -- What the values that C hands over say.
-use Rattle.std.specs.Prelude.{ℕ, ◌+◌, ◌-◌, ◌*◌, ◌/◌, ◌%◌, ◌^◌, nat_lt, Bool, List, Option, Some, None, if◌then◌else◌}
+use Rattle.std.specs.Prelude.{ℕ, ◌+◌, ◌-◌, ◌*◌, ◌/◌, ◌%◌, ◌^◌, ◌==◌, nat_lt, Bool, List, Option, Some, None, if◌then◌else◌}
+use Rattle.in_memory.specs.declared.bounds.BoundsAsked.{BoundsAsked}
 use Rattle.in_memory.specs.declared.pictures.PictureValues.{PictureValues}
 use Rattle.in_memory.specs.declared.values.PortValues.{PortValues}
 use Rattle.replay.specs.declared.stamps.Stamp.{Stamp}
@@ -17,6 +18,11 @@ is_wanted value = nat_lt 0 value
 -- which moment the records of a replay carry: 0 that of the start, else that at which the last octet has been sent
 abbrev pub stamp_of : ℕ → Stamp
 stamp_of value = if is_wanted value then Stamps.End else Stamps.Start
+
+-- What is asked of bounds: bit 0 that slack is told, bit 1 that frames may wait from before the schedule, and bits 8 to 15 which classes send
+-- nothing.
+abbrev pub asked_of : ℕ → BoundsAsked
+asked_of flags = record { slack = flags % 2 == 1; leftovers = flags / 2 % 2 == 1; silent = flags / 256 % 256 }
 
 -- the moment of two halves
 abbrev pub moment_of : ℕ → ℕ → ℕ

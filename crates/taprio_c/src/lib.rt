@@ -28,7 +28,7 @@ ghost use Rattle.schedule_check.specs.Checked.{whole_check};
 ghost use Rattle.schedule_check.specs.Windows.{IsTeller, Teller};
 ghost use Rattle.script.specs.Outcome.{outcome_of};
 ghost use Rattle.script.specs.Texts.{script_telling};
-ghost use Rattle.taprio_c.specs.FromC.{is_wanted, moment_of, moment_said, picture_values, port_values, stamp_of};
+ghost use Rattle.taprio_c.specs.FromC.{asked_of, is_wanted, moment_of, moment_said, picture_values, port_values, stamp_of};
 ghost use Rattle.tc_reader.specs.Reader.{IsReader};
 ghost use Rattle.tc_reader.specs.declared.fault.TcFault.{TcFault};
 ghost use Rattle.traffic.specs.Faults.{streams_telling};
@@ -36,7 +36,9 @@ ghost use Rattle.traffic.specs.Outcome.{outcome_of as streams_outcome_of};
 ghost use Rattle.traffic.specs.Plan.{timed_from};
 ghost use Rattle.traffic.specs.declared.plan.Timing.TheVariants.{Drawn, Earliest, Latest};
 
-use crate::values::{is_wanted, moment_of, moment_said, picture_values, port_values, stamp_of};
+use crate::values::{
+    asked_of, is_wanted, moment_of, moment_said, picture_values, port_values, stamp_of,
+};
 use in_memory::{
     Ran, ReplayRan, bounds_octets, check_octets, draw_octets, frames_by_stream_octets,
     frames_octets, frames_of_capture_octets, replay_octets, run_octets, streams_octets,
@@ -133,10 +135,28 @@ pub extern "C" fn taprio_check(
     ran: &mut Ran,
 )
     ensures { (tell : Teller) → IsTeller tell → (read : List (List ℕ) → Result Command TcFault) → IsReader read →
-        Answers (told_by script_telling (λ ps. whole_check tell (usual (is_wanted windows) ps) read schedules.now) (rate_at rate)) ran.new (slices output.old fault.old) (slices output.new fault.new) }
+        Answers (told_by script_telling (λ ps. whole_check tell (usual false (is_wanted windows) ps) read schedules.now) (rate_at rate)) ran.new (slices output.old fault.old) (slices output.new fault.new) }
 {
     let windows = is_wanted(windows);
-    *ran = check_octets(&alloc, rate, windows, schedules, output, fault);
+    *ran = check_octets(&alloc, rate, false, windows, schedules, output, fault);
+}
+
+/// The same, with the classes that share windows.
+#[unsafe(no_mangle)]
+pub extern "C" fn taprio_check_shares(
+    alloc: Global,
+    rate: u32,
+    windows: u32,
+    schedules: &[u8],
+    output: &mut [u8],
+    fault: &mut [u8],
+    ran: &mut Ran,
+)
+    ensures { (tell : Teller) → IsTeller tell → (read : List (List ℕ) → Result Command TcFault) → IsReader read →
+        Answers (told_by script_telling (λ ps. whole_check tell (usual true (is_wanted windows) ps) read schedules.now) (rate_at rate)) ran.new (slices output.old fault.old) (slices output.new fault.new) }
+{
+    let windows = is_wanted(windows);
+    *ran = check_octets(&alloc, rate, true, windows, schedules, output, fault);
 }
 
 /// Makes a script of a table of streams, with the lines of `script` among their frames, which may have no octets.
@@ -235,14 +255,14 @@ pub extern "C" fn taprio_bounds(
     ran: &mut Ran,
 )
     ensures { (read : List (List ℕ) → Result Command TcFault) → IsReader read →
-        AnswersBounds read (bounds_settings_at (port_values values.now) frames false) table.now schedules.now
+        AnswersBounds read (bounds_settings_at (port_values values.now) frames (asked_of 0)) table.now schedules.now
         ran.new (slices output.old fault.old) (slices output.new fault.new) }
 {
     *ran = bounds_octets(
         alloc,
         port_values(values),
         frames,
-        false,
+        asked_of(0),
         table,
         schedules,
         output,
@@ -263,14 +283,44 @@ pub extern "C" fn taprio_bounds_slack(
     ran: &mut Ran,
 )
     ensures { (read : List (List ℕ) → Result Command TcFault) → IsReader read →
-        AnswersBounds read (bounds_settings_at (port_values values.now) frames true) table.now schedules.now
+        AnswersBounds read (bounds_settings_at (port_values values.now) frames (asked_of 1)) table.now schedules.now
         ran.new (slices output.old fault.old) (slices output.new fault.new) }
 {
     *ran = bounds_octets(
         alloc,
         port_values(values),
         frames,
-        true,
+        asked_of(1),
+        table,
+        schedules,
+        output,
+        fault,
+    );
+}
+
+/// The same, with what `asked` says: the greatest jitter that each stream with a deadline may have (1), that frames may
+/// wait from before the schedule (2), and that class N sends nothing where it has no streams (256 shifted by N).
+#[unsafe(no_mangle)]
+pub extern "C" fn taprio_bounds_asked(
+    alloc: Global,
+    values: &CPortValues,
+    frames: u64,
+    asked: u32,
+    table: &[u8],
+    schedules: &[u8],
+    output: &mut [u8],
+    fault: &mut [u8],
+    ran: &mut Ran,
+)
+    ensures { (read : List (List ℕ) → Result Command TcFault) → IsReader read →
+        AnswersBounds read (bounds_settings_at (port_values values.now) frames (asked_of asked)) table.now schedules.now
+        ran.new (slices output.old fault.old) (slices output.new fault.new) }
+{
+    *ran = bounds_octets(
+        alloc,
+        port_values(values),
+        frames,
+        asked_of(asked),
         table,
         schedules,
         output,

@@ -2,9 +2,9 @@
 
 ghost use Rattle.std.specs.Prelude.{◌≡◌, ◌≤◌, IfSome};
 ghost use Rattle.wire_time.specs.Moment.{greatest_moment};
-ghost use Rattle.taprio_c.specs.FromC.{is_wanted, moment_of, moment_said, moment_told, moment_unless_none, moment_where, picture_values, port_values, stamp_of};
+ghost use Rattle.taprio_c.specs.FromC.{asked_of, is_wanted, moment_of, moment_said, moment_told, moment_unless_none, moment_where, picture_values, port_values, stamp_of};
 
-use in_memory::{PictureValues, PortValues};
+use in_memory::{BoundsAsked, PictureValues, PortValues};
 use replay::Stamp;
 use times::moment;
 use wire_time::MAX_MOMENT;
@@ -82,6 +82,18 @@ pub fn stamp_of(value: u32) -> Stamp
         Stamp::End
     } else {
         Stamp::Start
+    }
+}
+
+/// What is asked of bounds: bit 0 that slack is told, bit 1 that frames may wait from before the schedule, and bits 8 to 15
+/// which classes send nothing.
+pub fn asked_of(flags: u32) -> BoundsAsked
+    ensures { result ≡ asked_of flags }
+{
+    BoundsAsked {
+        slack: flags % 2 == 1,
+        leftovers: flags / 2 % 2 == 1,
+        silent: (flags / 256 % 256) as u8,
     }
 }
 

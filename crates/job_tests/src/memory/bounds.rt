@@ -1,8 +1,15 @@
 //! The delays of streams, from memory.
 
 use crate::memory::lent::{DOTS, USUAL, done, has};
-use in_memory::{PortValues, Ran, bounds_octets};
+use in_memory::{BoundsAsked, PortValues, Ran, bounds_octets};
 use std::alloc::Global;
+
+/// Nothing is asked beside the usual.
+pub const NOTHING: BoundsAsked = BoundsAsked {
+    slack: false,
+    leftovers: false,
+    silent: 0,
+};
 
 /// A window for each of two classes.
 const SCHEDULE: &[u8] = b"tc qdisc replace dev eth0 root taprio num_tc 2 map 0 1 base-time 0 \
@@ -21,7 +28,7 @@ fn is_missed(alloc: Global) -> bool {
         alloc,
         USUAL,
         1,
-        false,
+        NOTHING,
         LOST,
         SCHEDULE,
         &mut output,
@@ -46,7 +53,7 @@ fn is_refused(alloc: Global, values: PortValues, frames: u64, text: &[u8], statu
         alloc,
         values,
         frames,
-        false,
+        NOTHING,
         table,
         SCHEDULE,
         &mut output,

@@ -1,5 +1,6 @@
 //! The jobs over memory, called alike.
 
+use crate::memory::bounds::NOTHING;
 use crate::memory::lent::USUAL;
 use in_memory::{
     PictureValues, Ran, bounds_octets, check_octets, draw_octets, frames_by_stream_octets,
@@ -47,12 +48,12 @@ pub fn ran_by(
     let [first, second] = inputs;
     match job {
         Job::Script => run_octets(&alloc, USUAL, first, output, fault),
-        Job::Check => check_octets(&alloc, 1000, true, first, output, fault),
+        Job::Check => check_octets(&alloc, 1000, false, true, first, output, fault),
         Job::Streams => streams_octets(&alloc, Timing::Earliest, 0, first, second, output, fault),
         Job::Frames => frames_octets(&alloc, USUAL, first, output, fault),
         Job::ByStream => { frames_by_stream_octets(&alloc, USUAL, first, second, output, fault) }
         Job::OfCapture => { frames_of_capture_octets(&alloc, USUAL, first, second, output, fault) }
         Job::Draw => draw_octets(alloc, USUAL, SHOWN, first, output, fault),
-        Job::Bounds => bounds_octets(alloc, USUAL, 9, false, first, second, output, fault),
+        Job::Bounds => bounds_octets(alloc, USUAL, 9, NOTHING, first, second, output, fault),
     }
 }

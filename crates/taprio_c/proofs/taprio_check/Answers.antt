@@ -1,4 +1,4 @@
-use Rattle.std.proofs.Common.{Bool, subst}
+use Rattle.std.proofs.Common.{Bool, false, subst}
 use Rattle.in_memory.specs.Slices.{Answers, slices, told_by}
 use Rattle.in_memory.specs.Values.{rate_at}
 use Rattle.schedule_check.specs.CheckEnd.{usual}
@@ -8,5 +8,5 @@ use Rattle.taprio_c.proofs.taprio_check.Goals as goal
 
 pub returns : goal.returns
 returns c = λ tell tells read reads.
-    let P : Bool → Type 0 = λ windows. Answers (told_by script_telling (λ ps. whole_check tell (usual windows ps) read c.args.schedules.now) (rate_at c.args.rate)) c.check_octets.result (slices c.args.output.now c.args.fault.now) (slices c.check_octets.new.output c.check_octets.new.fault) in
+    let P : Bool → Type 0 = λ windows. Answers (told_by script_telling (λ ps. whole_check tell (usual false windows ps) read c.args.schedules.now) (rate_at c.args.rate)) c.check_octets.result (slices c.args.output.now c.args.fault.now) (slices c.check_octets.new.output c.check_octets.new.fault) in
     subst P c.is_wanted-windows.ensures (c.check_octets.ensures tell tells read reads)

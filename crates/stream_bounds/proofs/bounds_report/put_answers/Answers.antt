@@ -1,32 +1,24 @@
-use Rattle.std.proofs.Common.{◌≡◌, [], Option, None, true, append-nil, ap, ◌∙◌, refl, sym}
+use Rattle.std.proofs.Common.{[], Option, None, true, append-nil, ap, ◌∙◌, refl, sym}
 use Rattle.std.proofs.lemmas.Result.{err_from_is_err_and}
 use Rattle.octet_writer.proofs.Fronts.{sent_all, sent_exit, sent_more, sent_none}
-use Rattle.abstract_port.specs.AbstractPort.{plan_asked}
-use Rattle.gate_list.specs.Gate.{Plan}
-use Rattle.schedule_check.specs.Apart.{apart_line, class_count, classes_apart}
-use Rattle.schedule_check.specs.Refusals.{map_after}
-use Rattle.stream_bounds.specs.BoundLines.{bound_lines, change_lines, class_lines, finding_in, first_of}
+use Rattle.stream_bounds.specs.BoundLines.{bound_lines, change_lines, class_lines, finding_in, first_of, premise_lines}
 use Rattle.stream_bounds.specs.declared.faults.Answered.{Answered}
 use Rattle.stream_bounds.specs.declared.faults.Finding.{Finding}
 use Rattle.stream_bounds.proofs.bounds_report.put_answers.Goals as goal
 
-pub returns-in_err-put_apart-clause-lines : goal.returns-in_err-put_apart-clause-lines
-returns-in_err-put_apart-clause-lines g c =
+pub returns-in_err-put_premises-clause-lines : goal.returns-in_err-put_premises-clause-lines
+returns-in_err-put_premises-clause-lines g c =
     let p = err_from_is_err_and c.from_residual.result c.from_residual.ensures.1 in
     let s = c.args.settings.now in
     let ch = c.args.change.now in
-    let entries = ap (λ (p : Plan). p.entries) c.requires.plan in
-    let list : c.deref.result.now ≡ classes_apart (class_count (map_after s.map ch.map)) 0 (plan_asked ch).entries = cc in
-    sent_exit _ (apart_line (classes_apart (class_count (map_after s.map ch.map)) 0 (plan_asked ch).entries)) _ p.1 (sent_none _ (change_lines None s ch c.args.streams.now c.args.answers.now)) refl (rw list at c.in_err-put_apart.ensures)
+    sent_exit _ (premise_lines s ch c.args.streams.now) _ p.1 (sent_none _ (change_lines None s ch c.args.streams.now c.args.answers.now)) refl c.in_err-put_premises.ensures
 
 pub returns-in_err-put_classes-clause-lines : goal.returns-in_err-put_classes-clause-lines
 returns-in_err-put_classes-clause-lines g c =
     let p = err_from_is_err_and c.from_residual-in_err-put_classes.result c.from_residual-in_err-put_classes.ensures.1 in
     let s = c.args.settings.now in
     let ch = c.args.change.now in
-    let entries = ap (λ (p : Plan). p.entries) c.requires.plan in
-    let list : c.deref.result.now ≡ classes_apart (class_count (map_after s.map ch.map)) 0 (plan_asked ch).entries = cc in
-    let first = sent_more _ (apart_line (classes_apart (class_count (map_after s.map ch.map)) 0 (plan_asked ch).entries)) _ (sent_none _ (change_lines None s ch c.args.streams.now c.args.answers.now)) refl (rw list at c.in_ok-put_apart.ensures) in
+    let first = sent_more _ (premise_lines s ch c.args.streams.now) _ (sent_none _ (change_lines None s ch c.args.streams.now c.args.answers.now)) refl c.in_ok-put_premises.ensures in
     sent_exit _ (class_lines s.port.room c.args.answers.now 8 0) _ p.1 first refl (rw c.room.ensures.value at c.in_err-put_classes.ensures)
 
 pub returns-in_err-of_streams-clause-lines : goal.returns-in_err-of_streams-clause-lines
@@ -35,9 +27,7 @@ returns-in_err-of_streams-clause-lines g c =
     let s = c.args.settings.now in
     let ch = c.args.change.now in
     let streams = c.args.streams.now in
-    let entries = ap (λ (p : Plan). p.entries) c.requires.plan in
-    let list : c.deref.result.now ≡ classes_apart (class_count (map_after s.map ch.map)) 0 (plan_asked ch).entries = cc in
-    let first = sent_more _ (apart_line (classes_apart (class_count (map_after s.map ch.map)) 0 (plan_asked ch).entries)) _ (sent_none _ (change_lines None s ch streams c.args.answers.now)) refl (rw list at c.in_ok-put_apart.ensures) in
+    let first = sent_more _ (premise_lines s ch c.args.streams.now) _ (sent_none _ (change_lines None s ch streams c.args.answers.now)) refl c.in_ok-put_premises.ensures in
     let second = sent_more _ (class_lines s.port.room c.args.answers.now 8 0) _ first refl (rw c.room.ensures.value at c.in_ok-put_classes.ensures) in
     sent_exit _ (bound_lines s ch c.args.answers.now streams) [] p.1 second (sym (append-nil _)) c.in_err-of_streams.ensures.lines
 
@@ -46,9 +36,7 @@ returns-clause-lines g c =
     let s = c.args.settings.now in
     let ch = c.args.change.now in
     let streams = c.args.streams.now in
-    let entries = ap (λ (p : Plan). p.entries) c.requires.plan in
-    let list : c.deref.result.now ≡ classes_apart (class_count (map_after s.map ch.map)) 0 (plan_asked ch).entries = cc in
-    let first = sent_more _ (apart_line (classes_apart (class_count (map_after s.map ch.map)) 0 (plan_asked ch).entries)) _ (sent_none _ (change_lines None s ch streams c.args.answers.now)) refl (rw list at c.in_ok-put_apart.ensures) in
+    let first = sent_more _ (premise_lines s ch c.args.streams.now) _ (sent_none _ (change_lines None s ch streams c.args.answers.now)) refl c.in_ok-put_premises.ensures in
     let second = sent_more _ (class_lines s.port.room c.args.answers.now 8 0) _ first refl (rw c.room.ensures.value at c.in_ok-put_classes.ensures) in
     sent_all (sent_more _ (bound_lines s ch c.args.answers.now streams) [] second (sym (append-nil _)) c.in_ok-of_streams.ensures.lines) refl
 

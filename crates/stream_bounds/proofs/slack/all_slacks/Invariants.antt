@@ -1,4 +1,4 @@
-use Rattle.std.proofs.Common.{◌≡◌, ℕ, List, Option, Some, length}
+use Rattle.std.proofs.Common.{◌≡◌, ℕ, Option, Some, length}
 use Rattle.std.specs.Prelude.{slice_get}
 use Rattle.stream_bounds.specs.Verdicts.{IsSlackOf}
 use Rattle.traffic.specs.declared.table.Stream.{Stream}
@@ -9,5 +9,5 @@ abbrev pub invariant-loop-place : goal.invariant-loop-place
 invariant-loop-place l = record {
   count : length l.slacks.items ≡ l.place;
   each : (place : ℕ) (x : Stream) (slack : Option ℕ) → slice_get l.streams place ≡ Some x → slice_get l.slacks.items place ≡ Some slack
-      → IsSlackOf l.settings l.change l.streams l.class place x x.deadline slack;
+      → IsSlackOf l.settings l.change l.beside.table.now l.beside.above.now l.streams l.class place x x.deadline slack;
 }

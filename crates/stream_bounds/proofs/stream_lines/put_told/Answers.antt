@@ -1,4 +1,4 @@
-use Rattle.std.proofs.Common.{refl, ◌++◌}
+use Rattle.std.proofs.Common.{refl}
 use Rattle.std.proofs.lemmas.Result.{err_from_is_err_and}
 use Rattle.octet_writer.proofs.Fronts.{sent_none, sent_more, sent_exit, sent_last}
 use Rattle.stream_bounds.specs.BoundLines.{bound_line, slack_line, stream_text}
