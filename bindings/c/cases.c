@@ -88,13 +88,13 @@ static int begins(struct octets slice, struct octets with) {
     return slice.length >= with.length && memcmp(slice.at, with.at, with.length) == 0 && is_untouched(slice, with.length);
 }
 
-enum job { RUN, FRAMES, FRAMES_BY_STREAM, FRAMES_OF_CAPTURE, CHECK, STREAMS, STREAMS_FROM, BOUNDS, DRAW };
+enum job { RUN, FRAMES, FRAMES_BY_STREAM, FRAMES_OF_CAPTURE, CHECK, CHECK_SHARES, STREAMS, STREAMS_FROM, BOUNDS, BOUNDS_SLACK, BOUNDS_ASKED, DRAW };
 
 struct call {
     enum job job;
     struct taprio_port_values values;
     struct taprio_picture_values shown; /* of STREAMS_FROM its beginning */
-    uint32_t windows;
+    uint32_t windows; /* of BOUNDS_ASKED what is asked */
     uint64_t frames;
     struct octets input, second;
 };
@@ -120,6 +120,10 @@ static struct taprio_ran call(const struct call *c, struct octets output, struct
         taprio_check(c->values.rate, c->windows, c->input.at, c->input.length, output.at, output.length, fault.at, fault.length,
                      &ran);
         break;
+    case CHECK_SHARES:
+        taprio_check_shares(c->values.rate, c->windows, c->input.at, c->input.length, output.at, output.length, fault.at,
+                            fault.length, &ran);
+        break;
     case STREAMS:
         taprio_streams(c->input.at, c->input.length, c->second.at, c->second.length, output.at, output.length, fault.at,
                        fault.length, &ran);
@@ -131,6 +135,14 @@ static struct taprio_ran call(const struct call *c, struct octets output, struct
     case BOUNDS:
         taprio_bounds(&c->values, c->frames, c->input.at, c->input.length, c->second.at, c->second.length, output.at,
                       output.length, fault.at, fault.length, &ran);
+        break;
+    case BOUNDS_SLACK:
+        taprio_bounds_slack(&c->values, c->frames, c->input.at, c->input.length, c->second.at, c->second.length, output.at,
+                            output.length, fault.at, fault.length, &ran);
+        break;
+    case BOUNDS_ASKED:
+        taprio_bounds_asked(&c->values, c->frames, c->windows, c->input.at, c->input.length, c->second.at, c->second.length,
+                            output.at, output.length, fault.at, fault.length, &ran);
         break;
     default:
         taprio_draw(&c->values, &c->shown, c->input.at, c->input.length, output.at, output.length, fault.at, fault.length, &ran);
@@ -429,7 +441,7 @@ static const char machine_schedules[] =
 
 static const char machine_bounds[] =
     "apart 5 6 7\n"
-    "class 0 shared\n"
+    "class 0 open to 1 2 3 4\n"
     "class 5 most 3 of 128 frames 5 every 500000000\n"
     "class 6 stuck at 0 stream 500 frame 1 full at 128000000000 stream 500 frame 129\n"
     "class 7 most 2 of 128 frames 5 every 1000000000\n"
@@ -441,7 +453,7 @@ static const char machine_bounds[] =
     "bound 500 class 6 none deadline 1000000000 missed\n"
     "bound 600 dropped TooLong deadline 1000000000 missed\n"
     "apart 5 6 7\n"
-    "class 0 shared\n"
+    "class 0 open to 1 2 3 4\n"
     "class 5 full at 63510000000 stream 300 frame 509\n"
     "class 6 most 1 of 128 frames 1 every 1000000000\n"
     "class 7 most 2 of 128 frames 5 every 1000000000\n"
@@ -482,6 +494,47 @@ static void bounds(void) {
     free(half.at);
 }
 
+/* two classes share a window, and one has streams: what is asked of it */
+static void bounds_asked(void) {
+    static const char stream[] = "stream 2 0 60 1ms 0us 1 deadline 1ms\n";
+    static const char both[] = "stream 1 1 60 1ms any 1\nstream 2 0 60 1ms 0us 1\n";
+    static const char open[] = "apart none\nclass 0 open to 1\nbound 2 class 0 unknown deadline 1000000000 unknown\n";
+    static const char silent[] = "apart none\nsilent 1\nclass 0 within most 1 of 128\n"
+                                 "bound 2 class 0 within 0 to 50671999 end 672000 to 51343999 deadline 1000000000 met\n";
+    static const char bounded[] = "apart none\nclass 0 within most 1 of 128\nclass 1 within most 1 of 128\n"
+                                  "bound 1 class 1 within 0 to 63007998 end 672000 to 63679998\n"
+                                  "bound 2 class 0 within 0 to 52015998 end 672000 to 52687998\n";
+    static const char left[] = "apart none\nclass 0 open to 1\nclass 1 within most 1 of 128\n"
+                               "bound 1 class 1 within 0 to 63007998 end 672000 to 63679998\nbound 2 class 0 unknown\n";
+    char slack[512];
+    struct octets schedule = text("tc qdisc replace dev eth0 root taprio num_tc 2 map 0 1 base-time 0 sched-entry S 03 50000 sched-entry S 00 50000\n");
+    struct call c = {BOUNDS_ASKED, usual, whole, 0, TAPRIO_FRAMES, {0}, schedule};
+    small("nothing is asked", c, stream, TAPRIO_DONE, open, "");
+    c.windows = 0xffff00fc;
+    small("other bits are asked", c, stream, TAPRIO_DONE, open, "");
+    c.windows = TAPRIO_SILENT(1);
+    small("a class is silent", c, stream, TAPRIO_DONE, silent, "");
+    c.windows = TAPRIO_SILENT(1) | TAPRIO_LEFTOVERS;
+    small("a silent class has no leftovers", c, stream, TAPRIO_DONE, silent, "");
+    c.windows = TAPRIO_SILENT(0);
+    small("a silent class that has streams", c, stream, TAPRIO_DONE, "apart none\nsilent\nclass 0 open to 1\nbound 2 class 0 unknown deadline 1000000000 unknown\n", "");
+    c.windows = TAPRIO_SILENT(1) | TAPRIO_SLACK;
+    snprintf(slack, sizeof slack, "%sslack 2 jitter 948656000\n", silent);
+    small("a class is silent, with slack", c, stream, TAPRIO_DONE, slack, "");
+    c.windows = TAPRIO_SLACK;
+    snprintf(slack, sizeof slack, "%sslack 2 none\n", open);
+    small("slack is asked", c, stream, TAPRIO_DONE, slack, "");
+    c.windows = 0;
+    small("both have streams", c, both, TAPRIO_DONE, bounded, "");
+    c.windows = TAPRIO_LEFTOVERS;
+    small("leftovers of both", c, both, TAPRIO_DONE, left, "");
+    c.values.mtu = 67;
+    small("a bad mtu, and leftovers", c, both, TAPRIO_BAD_VALUE, "", "taprio_port: bad value of --mtu\n");
+    struct call with = {BOUNDS_SLACK, usual, whole, 0, TAPRIO_FRAMES, {0}, schedule};
+    small("slack", with, stream, TAPRIO_DONE, slack, "");
+    free(schedule.at);
+}
+
 /* null pointers with length 0, in the place of each slice: the calls ask for room, or do what they do without octets */
 static void nulls(void) {
     struct taprio_ran ran;
@@ -501,6 +554,10 @@ static void nulls(void) {
     expect(ran.status == TAPRIO_NO_ROOM && ran.output == 13, "null pointers", "taprio_streams_from");
     taprio_bounds(&usual, 1, NULL, 0, NULL, 0, NULL, 0, NULL, 0, &ran);
     expect(ran.status == TAPRIO_DONE && ran.output == 0, "null pointers", "taprio_bounds");
+    taprio_bounds_slack(&usual, 1, NULL, 0, NULL, 0, NULL, 0, NULL, 0, &ran);
+    expect(ran.status == TAPRIO_DONE && ran.output == 0, "null pointers", "taprio_bounds_slack");
+    taprio_bounds_asked(&usual, 1, TAPRIO_SILENT(7), NULL, 0, NULL, 0, NULL, 0, NULL, 0, &ran);
+    expect(ran.status == TAPRIO_DONE && ran.output == 0, "null pointers", "taprio_bounds_asked");
     taprio_frames(&usual, NULL, 0, NULL, 0, NULL, 0, &ran);
     expect(ran.status == TAPRIO_NO_ROOM && ran.output == strlen(HEAD), "null pointers", "taprio_frames");
     taprio_frames_by_stream(&usual, NULL, 0, NULL, 0, NULL, 0, NULL, 0, &ran);
@@ -744,6 +801,15 @@ int main(int count, char **words) {
     of_files(check, "apart.schedules", NULL, "apart.answers");
     check.windows = 1;
     of_files(check, "windows.schedules", NULL, "windows.answers");
+    struct call shares = {CHECK_SHARES, usual, whole, 0, 0, {0}, {0}};
+    static const char shared[] = "tc qdisc replace dev eth0 root taprio num_tc 2 map 0 1 sched-entry S 03 1000";
+    small("what is shared", shares, shared, TAPRIO_DONE, "apart none\nshares 0 with 1\nshares 1 with 0\n", "");
+    shares.windows = 1;
+    small("what is shared, and windows", shares, shared, TAPRIO_DONE,
+          "apart none\nshares 0 with 1\nshares 1 with 0\n"
+          "window class 0 open always closed 0 share 1000000 of 1000000 frame any wait 0\n"
+          "window class 1 open always closed 0 share 1000000 of 1000000 frame any wait 0\n",
+          "");
     struct call table = {STREAMS, usual, whole, 0, 0, {0}, {0}};
     of_files(table, "planned.streams", "planned.schedule", "planned.script");
     struct call later = {STREAMS_FROM, usual, whole, 0, 0, {0}, {0}};
@@ -755,6 +821,7 @@ int main(int count, char **words) {
     later.shown.from_high = 500;
     small("a late moment", later, "stream", TAPRIO_BAD_VALUE, "", "taprio_port: bad value of --from\n");
     bounds();
+    bounds_asked();
     frames();
     frames_by_stream();
     frames_of_capture();

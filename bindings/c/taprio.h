@@ -146,6 +146,10 @@ void taprio_moment(const uint8_t *word, size_t word_length, struct taprio_moment
 void taprio_check(uint32_t rate, uint32_t windows, const uint8_t *schedules, size_t schedules_length, uint8_t *output,
                   size_t output_length, uint8_t *fault, size_t fault_length, struct taprio_ran *ran);
 
+/* The same, with a line for each class that shares windows with others, as `--shares` reports them. */
+void taprio_check_shares(uint32_t rate, uint32_t windows, const uint8_t *schedules, size_t schedules_length, uint8_t *output,
+                         size_t output_length, uint8_t *fault, size_t fault_length, struct taprio_ran *ran);
+
 /* Makes a script of a table of streams, as `taprio_port streams` does, with the lines of a script among the frames, as
  * `--with` does: for none `script_length` is 0. At TAPRIO_BAD_INPUT there is no output where the table has the fault; where the
  * script has it, the output is what comes before it. */
@@ -185,6 +189,18 @@ void taprio_bounds(const struct taprio_port_values *values, uint64_t frames, con
 void taprio_bounds_slack(const struct taprio_port_values *values, uint64_t frames, const uint8_t *table, size_t table_length,
                          const uint8_t *schedules, size_t schedules_length, uint8_t *output, size_t output_length, uint8_t *fault,
                          size_t fault_length, struct taprio_ran *ran);
+
+/* What is asked of taprio_bounds_asked, with `|` between them; 0: nothing. */
+#define TAPRIO_SLACK 1u     /* the line of taprio_bounds_slack behind that of each stream with a deadline */
+#define TAPRIO_LEFTOVERS 2u /* frames of other classes may wait from before the schedule, but of silent ones */
+#define TAPRIO_SILENT(traffic_class) (256u << (traffic_class)) /* a class, 0 to 7, sends nothing where it has no streams */
+
+/* The same, as `--slack`, `--leftovers` and `--silent` ask it; other bits of `asked` change nothing. Where a class is said to be silent,
+ * a line behind that of the classes that are kept apart tells which of these have no streams. taprio_bounds is this call with 0, and
+ * taprio_bounds_slack with TAPRIO_SLACK. */
+void taprio_bounds_asked(const struct taprio_port_values *values, uint64_t frames, uint32_t asked, const uint8_t *table,
+                         size_t table_length, const uint8_t *schedules, size_t schedules_length, uint8_t *output,
+                         size_t output_length, uint8_t *fault, size_t fault_length, struct taprio_ran *ran);
 
 /* Draws the run of a script as an SVG picture, as `taprio_port draw` does. The run goes on to `until`, where it is given. There is no output at
  * TAPRIO_BAD_INPUT. */
@@ -261,6 +277,13 @@ static inline void taprio_check_or_null(uint32_t rate, uint32_t windows, const u
                  taprio_lent(fault), fault_length, ran);
 }
 
+static inline void taprio_check_shares_or_null(uint32_t rate, uint32_t windows, const uint8_t *schedules, size_t schedules_length,
+                                               uint8_t *output, size_t output_length, uint8_t *fault, size_t fault_length,
+                                               struct taprio_ran *ran) {
+    taprio_check_shares(rate, windows, taprio_octets(schedules), schedules_length, taprio_lent(output), output_length,
+                        taprio_lent(fault), fault_length, ran);
+}
+
 static inline void taprio_streams_or_null(const uint8_t *table, size_t table_length, const uint8_t *script, size_t script_length,
                                           uint8_t *output, size_t output_length, uint8_t *fault, size_t fault_length,
                                           struct taprio_ran *ran) {
@@ -305,6 +328,14 @@ static inline void taprio_bounds_slack_or_null(const struct taprio_port_values *
                         taprio_lent(output), output_length, taprio_lent(fault), fault_length, ran);
 }
 
+static inline void taprio_bounds_asked_or_null(const struct taprio_port_values *values, uint64_t frames, uint32_t asked,
+                                               const uint8_t *table, size_t table_length, const uint8_t *schedules,
+                                               size_t schedules_length, uint8_t *output, size_t output_length, uint8_t *fault,
+                                               size_t fault_length, struct taprio_ran *ran) {
+    taprio_bounds_asked(values, frames, asked, taprio_octets(table), table_length, taprio_octets(schedules), schedules_length,
+                        taprio_lent(output), output_length, taprio_lent(fault), fault_length, ran);
+}
+
 static inline void taprio_draw_or_null(const struct taprio_port_values *values, const struct taprio_picture_values *shown,
                                        const uint8_t *script, size_t script_length, uint8_t *output, size_t output_length,
                                        uint8_t *fault, size_t fault_length, struct taprio_ran *ran) {
@@ -336,12 +367,14 @@ static inline void taprio_replay_stamped_or_null(const struct taprio_port_values
 #define taprio_frames_of_capture taprio_frames_of_capture_or_null
 #define taprio_moment taprio_moment_or_null
 #define taprio_check taprio_check_or_null
+#define taprio_check_shares taprio_check_shares_or_null
 #define taprio_streams taprio_streams_or_null
 #define taprio_streams_from taprio_streams_from_or_null
 #define taprio_streams_late taprio_streams_late_or_null
 #define taprio_streams_drawn taprio_streams_drawn_or_null
 #define taprio_bounds taprio_bounds_or_null
 #define taprio_bounds_slack taprio_bounds_slack_or_null
+#define taprio_bounds_asked taprio_bounds_asked_or_null
 #define taprio_draw taprio_draw_or_null
 #define taprio_replay taprio_replay_or_null
 #define taprio_replay_stamped taprio_replay_stamped_or_null

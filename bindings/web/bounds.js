@@ -7,17 +7,22 @@ const BOUND = /^bound (\d+) (?:class (\d) )?(?:(wait|within) (\d+) to (\d+) end 
 
 const SLACK = /^slack (\d+) (?:none|jitter (\d+))$/;
 
+const SILENT_LINE = /^silent((?: \d)*)$/;
+
 /**
- * The streams of each schedule that a run of bounds tells of.
+ * The streams of each schedule that a run of bounds tells of. `silent` are the classes that are taken to send nothing, or null where it was
+ * said of none.
  *
  * @param {string} answers
- * @returns {{apart: string, classes: string[], streams: object[]}[]}
+ * @returns {{apart: string, silent: string[] | null, classes: string[], streams: object[]}[]}
  */
 export function boundsIn(answers) {
   const found = [];
   for (const line of answers.split("\n")) {
-    if (/^(?:apart|refused|tc-fault)\b/.test(line)) found.push({ apart: line, classes: [], streams: [] });
+    if (/^(?:apart|refused|tc-fault)\b/.test(line)) found.push({ apart: line, silent: null, classes: [], streams: [] });
     else if (line.startsWith("class ")) found.at(-1)?.classes.push(line);
+    const silent = SILENT_LINE.exec(line);
+    if (silent && found.length) found.at(-1).silent = silent[1].split(" ").filter(Boolean);
     const slack = SLACK.exec(line);
     const of = found.at(-1)?.streams.at(-1);
     if (slack && of?.id === slack[1]) of.slack = slack[2] === undefined ? "none" : BigInt(slack[2]);
@@ -33,6 +38,20 @@ export function boundsIn(answers) {
     });
   }
   return found;
+}
+
+// Classes in words.
+const classesOf = (kinds) => (kinds.length === 1 ? `class ${kinds[0]}` : `classes ${kinds.slice(0, -1).join(", ")} and ${kinds.at(-1)}`);
+
+// What is told of a class that shares its windows and has no bounds, in words.
+function sharingWords(line) {
+  const open = /^class (\d) open to ((?:\d )*\d)$/.exec(line);
+  if (open) return `Class ${open[1]} has no bounds: it shares windows with ${classesOf(open[2].split(" "))}, above it, and what may be sent there is not known.`;
+  const behind = /^class (\d) behind (\d)$/.exec(line);
+  if (behind) return `Class ${behind[1]} has no bounds: it shares windows with class ${behind[2]}, above it, which has none.`;
+  const blocked = /^class (\d) blocked$/.exec(line);
+  if (blocked) return `Class ${blocked[1]} has no bounds: behind a frame of another class, no window takes its longest frame.`;
+  return null;
 }
 
 // What is told of a class, in words.
@@ -54,9 +73,7 @@ function classWords(line, write) {
   if (never) return `Class ${never[1]} is stuck: no window takes its longest frame.`;
   const overloaded = /^class (\d) overloaded$/.exec(line);
   if (overloaded) return `Class ${overloaded[1]} is overloaded: more frames come than leave, and no queue has room for them in the end.`;
-  const shared = /^class (\d) shared$/.exec(line);
-  if (shared) return `Class ${shared[1]} shares its gate with other classes: nothing is promised.`;
-  return null;
+  return sharingWords(line);
 }
 
 /** What the times of these streams count from. The nominal moment is OFFSET + n * PERIOD: without jitter the arrival. */
@@ -65,8 +82,11 @@ export const countedFrom = (streams) => (streams.some((it) => it.within) ? "thei
 // The streams of these ids, behind a word; nothing where there are none.
 const listed = (word, ids) => (ids.length ? `; ${word}: stream${ids.length === 1 ? "" : "s"} ${ids.join(", ")}` : "");
 
+// What is taken for granted of classes that are said to be silent: of all that have no streams.
+const silentWords = (silent) => (silent === null ? "" : silent.length ? `${classesOf(silent).replace("c", "C")} ${silent.length === 1 ? "is" : "are"} taken to send nothing.` : "Each class that is said to be silent has streams.");
+
 /** What bounds say in a sentence or a few. */
-export function boundsVerdict({ classes, streams }, write) {
+export function boundsVerdict({ silent, classes, streams }, write) {
   const due = streams.filter((it) => it.deadline !== null);
   const met = due.filter((it) => it.verdict === "met");
   const those = (verdict) => due.filter((it) => it.verdict === verdict).map((it) => it.id);
@@ -74,7 +94,7 @@ export function boundsVerdict({ classes, streams }, write) {
     : !due.length ? `${count(streams.length, "stream")}, no deadlines.`
     : met.length === due.length ? `Every deadline is met, for ever.`
     : `${met.length} of ${due.length} deadlines are met for ever${listed("missed", those("missed"))}${listed("not known", those("unknown"))}.`;
-  return [head, ...classes.map((it) => classWords(it, write)).filter(Boolean)].join(" ");
+  return [head, silentWords(silent), ...classes.map((it) => classWords(it, write))].filter(Boolean).join(" ");
 }
 
 const BEGIN = 92; // where time begins, in pixels

@@ -24,6 +24,7 @@ const WANTED = {
   mtu: "a whole number from 68 to 9216",
   room: "a whole number from 1 to 4096",
   frames: "a whole number from 1 to 1000000000",
+  silent: "classes from 0 to 7, each once, with commas between them, such as 6,7",
   seed: "a whole number from 0 to 18446744073709551615, where frames aren't to come late",
   until: MOMENT,
   from: `${MOMENT}; of a picture 9223372036854774807000 ps`,

@@ -3,16 +3,18 @@ import { wordOfMoment } from "./moments.js";
 
 const NUMBERS = ["rate", "mtu", "room", "frames"];
 const MOMENTS = ["until", "from", "to"];
-const FLAGS = ["summary", "windows", "late", "slack"];
+const FLAGS = ["summary", "shares", "windows", "late", "slack", "leftovers"];
 const SEED = "seed";
+const SILENT = "silent";
+const TEXTS = [...NUMBERS, ...MOMENTS, SEED, SILENT]; // the options that are typed, or chosen of a list
 const GREATEST_NUMBER = 2 ** 32 - 1;
 const GREATEST_SEED = 2n ** 64n - 1n;
 const USED = {
   script: ["rate", "mtu", "room", "until", "summary"],
   draw: ["rate", "mtu", "room", "from", "to"],
   replay: ["rate", "mtu", "room", "until", "summary"],
-  bounds: ["rate", "mtu", "room", "frames", "slack"],
-  check: ["rate", "windows"],
+  bounds: ["rate", "mtu", "room", "frames", "slack", "silent", "leftovers"],
+  check: ["rate", "shares", "windows"],
   streams: ["late", "seed"],
 };
 
@@ -44,6 +46,16 @@ function readSeed() {
   return BigInt(words);
 }
 
+// The classes that send nothing, as the program reads them: each of 0 to 7 once, with commas between them; none where nothing stands there. They are told as
+// a mask, whose bit N is class N, so that two runs' values are compared as numbers.
+function readSilent() {
+  const words = inputOf(SILENT).value.trim();
+  if (words === "") return null;
+  const classes = words.split(",").map((it) => it.trim());
+  if (!classes.every((it) => /^[0-7]$/.test(it)) || new Set(classes).size < classes.length) throw new BadOption(SILENT);
+  return classes.reduce((mask, it) => mask | (1 << Number(it)), 0);
+}
+
 /**
  * The moments that stand in fields, as the port reads them.
  *
@@ -63,7 +75,13 @@ export async function momentsIn(names, read) {
 }
 
 // The values where nothing is said.
-const standing = () => ({ rate: 1000, mtu: 1500, room: 128, frames: 1000000, width: 1200, until: null, from: null, to: null, summary: false, windows: false, late: false, slack: false, seed: null });
+const standing = () => ({
+  rate: 1000, mtu: 1500, room: 128, frames: 1000000, width: 1200, until: null, from: null, to: null,
+  summary: false, shares: false, windows: false, late: false, slack: false, leftovers: false, seed: null, silent: null,
+});
+
+// What stands at first in a field with a text.
+const textAtFirst = (name) => String(standing()[name] ?? "");
 
 /**
  * The values of the options that a job has, as they stand now; the others are the program's where no words are given.
@@ -78,6 +96,7 @@ export async function valuesFor(job, read) {
     if (NUMBERS.includes(name)) values[name] = readNumber(name);
     else if (FLAGS.includes(name)) values[name] = inputOf(name).checked;
     else if (name === SEED) values[name] = readSeed();
+    else if (name === SILENT) values[name] = readSilent();
   }
   const names = USED[job].filter((name) => MOMENTS.includes(name));
   const moments = await momentsIn(names, read);
@@ -88,9 +107,9 @@ export async function valuesFor(job, read) {
 /** The options that are not as they stand at first, as words. */
 export function wordsOfOptions() {
   const words = {};
-  for (const name of [...NUMBERS, ...MOMENTS, SEED]) {
+  for (const name of TEXTS) {
     const input = inputOf(name);
-    if (input.value !== String(standing()[name] ?? "")) words[name] = input.value;
+    if (input.value !== textAtFirst(name)) words[name] = input.value;
   }
   for (const name of FLAGS) if (inputOf(name).checked) words[name] = "1";
   return words;
@@ -98,7 +117,7 @@ export function wordsOfOptions() {
 
 /** Sets all options by words; those without a word stand as at first. */
 export function setOptions(words) {
-  for (const name of [...NUMBERS, ...MOMENTS, SEED]) inputOf(name).value = words[name] ?? String(standing()[name] ?? "");
+  for (const name of TEXTS) inputOf(name).value = words[name] ?? textAtFirst(name);
   if (inputOf("rate").value === "") inputOf("rate").value = "1000";
   for (const name of FLAGS) inputOf(name).checked = words[name] === "1";
 }

@@ -128,11 +128,8 @@ function streamsCall({ values }) {
   return values.late ? ["taprio_streams_late", (at, request) => [0, 0, ...slices(at, request)]] : ["taprio_streams", slices];
 }
 
-// Bounds, with the jitter that streams may have where it is asked.
-const boundsCall = ({ values }) => [
-  values.slack ? "taprio_bounds_slack" : "taprio_bounds",
-  (at, { input, beside }) => [at.port, values.frames, at.beside, beside.length, at.input, input.length],
-];
+// What is asked of bounds, as TAPRIO_SLACK, TAPRIO_LEFTOVERS and TAPRIO_SILENT say it.
+const askedOf = ({ slack, leftovers, silent }) => ((silent ?? 0) << 8) | (slack ? 1 : 0) | (leftovers ? 2 : 0);
 
 // What each job calls, and the words of the call before its outputs; a slice is its address and its length.
 const CALLS = {
@@ -142,18 +139,24 @@ const CALLS = {
 };
 
 // The jobs whose call depends on what is asked.
-const CHOSEN = { frames: framesCall, streams: streamsCall, bounds: boundsCall };
+const CHOSEN = { frames: framesCall, streams: streamsCall };
 
 // What each job fills, in the order of the lengths that are told: a replay has two outputs.
 const filled = (job) => (job === "replay" ? ["output", "departures", "fault"] : ["output", "fault"]);
 
-// Calls the module: addresses and lengths are 64 bits wide, the two numbers of a check are 32.
+// Calls the module: addresses and lengths are 64 bits wide; the two numbers of a check and what is asked of bounds are 32.
 function call(exports, at, request, lengths) {
   const slices = filled(request.job).flatMap((name) => [at[name], lengths[name]]);
   const ends = [...slices, at.ran].map(BigInt);
   if (request.job === "check") {
-    const { rate, windows } = request.values;
-    exports.taprio_check(rate, windows ? 1 : 0, BigInt(at.input), BigInt(request.input.length), ...ends);
+    const { rate, windows, shares } = request.values;
+    exports[shares ? "taprio_check_shares" : "taprio_check"](rate, windows ? 1 : 0, BigInt(at.input), BigInt(request.input.length), ...ends);
+    return;
+  }
+  if (request.job === "bounds") {
+    const { values, input, beside } = request;
+    const texts = [at.beside, beside.length, at.input, input.length].map(BigInt);
+    exports.taprio_bounds_asked(BigInt(at.port), BigInt(values.frames), askedOf(values), ...texts, ...ends);
     return;
   }
   const [name, words] = CHOSEN[request.job]?.(request) ?? CALLS[request.job];
@@ -249,7 +252,7 @@ export function readMoments(module, words) {
  * @param {{job: string, input: Uint8Array, beside: Uint8Array, values: object}} request the job, its input, what it has beside
  *   that (the script that goes among the frames of a table of streams, the capture of a replay, the table of streams of bounds or, where there is
  *   one, of frames), and the values of the options: numbers, moments as BigInt or
- *   null, and booleans
+ *   null, booleans, and classes as a mask or null
  * @returns {{status: number, output: Uint8Array, departures: Uint8Array, fault: string}} as the program would end, write, and say on
  *   its standard error; departures are the capture that a replay writes
  */

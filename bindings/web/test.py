@@ -212,6 +212,10 @@ def try_examples(page):
     for path in sorted(EXAMPLES.glob("*.schedules")):
         page.choose(path.name)
         page.answers(path.name, program("check", *words_of(path, "windows"), text=path.read_bytes())[1])
+    page.do("at('shares').checked = true")
+    page.run()
+    page.answers("what is shared", program("check", "--shares", *words_of(path, "windows"), text=path.read_bytes())[1])
+    page.do("at('shares').checked = false")
     for path in sorted(EXAMPLES.glob("*.streams")):
         page.choose(path.name)
         wanted = program("streams", "--with", path.with_suffix(".schedule"), text=path.read_bytes())[1]
@@ -914,6 +918,48 @@ def try_timing(page):
     page.same("columns of slack", saved[0][-2:], ["slack", "told"])
     page.same("cells of slack", [row[-2] for row in saved[1:]], [str(jitter), "none", ""])
     page.do("at('slack').checked = false")
+
+
+# Two classes share their windows: a schedule, and a table of the lower one, of both, and of the upper one with a frame of the lower one
+# before its window. By what is asked, what is said of them.
+TOGETHER = "tc qdisc replace dev eth0 root taprio num_tc 3 map 0 1 2 base-time 0 sched-entry S 7 50000 sched-entry S 0 50000"
+BEFORE = "tc qdisc replace dev eth0 root taprio num_tc 3 map 0 1 2 base-time 0 sched-entry S 1 20000 sched-entry S 3 5000 sched-entry S 0 50000"
+LOW = "stream 2 0 60 1ms 0us 1 deadline 1ms\n"
+BOTH = f"{LOW}stream 1 1 60 1ms any 1\n"
+BLOCKED = "stream 1 1 60 1ms any 1\nstream 2 0 1514 1ms 0us 1 deadline 1ms\n"
+WAITS = "at most 1 frame ever waits at once, whenever its frames come."
+SHARING = (
+    (TOGETHER, LOW, "", False, "0 of 1 deadlines are met for ever; not known: stream 2. Class 0 has no bounds: it shares windows with classes 1 and 2, above it, and what may be sent there is not known."),
+    (TOGETHER, LOW, "2, 1", False, f"Every deadline is met, for ever. Classes 1 and 2 are taken to send nothing. Class 0: {WAITS}"),
+    (TOGETHER, BOTH, "2", False, f"Every deadline is met, for ever. Class 2 is taken to send nothing. Class 0: {WAITS} Class 1: {WAITS}"),
+    (TOGETHER, BOTH, "2", True, "0 of 1 deadlines are met for ever; not known: stream 2. Class 2 is taken to send nothing. Class 0 has no bounds: it shares windows with class 1, above it, and"),
+    (TOGETHER, LOW, "0", False, "0 of 1 deadlines are met for ever; not known: stream 2. Each class that is said to be silent has streams. Class 0 has no bounds"),
+    (BEFORE, BLOCKED, "", False, "0 of 1 deadlines are met for ever; not known: stream 2. Class 0 has no bounds: it shares windows with class 1, above it, which has none. "
+     "Class 1 has no bounds: behind a frame of another class, no window takes its longest frame."),
+)
+
+
+def try_sharing(page):
+    """Classes that share their windows, with silent ones and with leftovers: against the program, and what is said of them."""
+    page.choose("drive.bounds")
+    for schedule, table, silent, leftovers, said in SHARING:
+        page.set("text", schedule + "\n")
+        page.set("beside", table)
+        page.set("silent", silent)
+        page.set("leftovers", leftovers)
+        page.run()
+        words = [*(["--silent", silent.replace(" ", "")] if silent else []), *(["--leftovers"] if leftovers else [])]
+        with tempfile.NamedTemporaryFile() as file:
+            file.write(table.encode())
+            file.flush()
+            page.answers(f"bounds with {' '.join(words)}", program("bounds", *words, file.name, text=f"{schedule}\n".encode())[1])
+        page.same(f"verdict with {' '.join(words)}", page.text("verdict")[: len(said)], said)
+    for silent in ("8", "6,6", "6 7", "6,", "x"):
+        page.set("silent", silent)
+        page.run()
+        page.same(f"silent {silent}", page.text("fault-text")[:29], "bad value of --silent: wanted")
+    page.set("silent", "")
+    page.set("leftovers", False)
 
 
 def try_compare(page):
@@ -1909,7 +1955,7 @@ def try_looks(page):
     shoot(page, "replay")
 
 
-TRIES = [try_examples, try_replay, try_typing, try_options, try_worked, try_faults, try_refused, try_zoom, try_keys, try_micros, try_moments, try_frames, try_reasons, try_why, try_drops, try_tips, try_marks, try_pictures, try_rows, try_shades, try_whole, try_bounds, try_timing, try_compare, try_gates, try_imports,
+TRIES = [try_examples, try_replay, try_typing, try_options, try_worked, try_faults, try_refused, try_zoom, try_keys, try_micros, try_moments, try_frames, try_reasons, try_why, try_drops, try_tips, try_marks, try_pictures, try_rows, try_shades, try_whole, try_bounds, try_timing, try_sharing, try_compare, try_gates, try_imports,
          try_story, try_tabs, try_kept, try_long, try_files, try_forgotten, try_dates, try_stale, try_live, try_link, try_stop, try_access, try_screens, try_sizes, try_looks]
 
 

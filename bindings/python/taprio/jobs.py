@@ -30,10 +30,10 @@ def run(
     return backend().run(script, rate, mtu, room, until, summary)
 
 
-def check(schedules: Union[Schedule, Configured, Octets], rate: int = 1000, windows: bool = False) -> bytes:
-    """Tells of each schedule command which classes it keeps apart, with `windows` also what it gives each class. The schedules are `tc`
-    lines, or one `Schedule`."""
-    return backend().check(lines(schedules), rate, windows)
+def check(schedules: Union[Schedule, Configured, Octets], rate: int = 1000, windows: bool = False, shares: bool = False) -> bytes:
+    """Tells of each schedule command which classes it keeps apart, with `shares` also which classes share windows, and with `windows` what
+    it gives each class. The schedules are `tc` lines, or one `Schedule`."""
+    return backend().check(lines(schedules), rate, windows, shares)
 
 
 def streams(table: Octets, script: Octets = b"", from_: int = 0, late: bool = False, seed: int | None = None) -> bytes:

@@ -11,7 +11,7 @@ import ctypes
 import functools
 import os
 import pathlib
-from collections.abc import Callable
+from collections.abc import Callable, Iterable
 from typing import Any, Union
 
 from .faults import NO_MEMORY, NO_ROOM, BadInput, BadValue, LibraryMissing, Replay, TaprioError, index, of_text
@@ -94,8 +94,9 @@ _OF_PORT: dict[str, list[Any]] = {
     "taprio_port_free": [],
 }
 
-# What a shared object lacks that was built before there were bounds, tables of frames, ports that are driven, or late frames.
-_LATER = ("taprio_streams_from", "taprio_bounds", "taprio_frames", "taprio_replay_stamped", "taprio_frames_by_stream", "taprio_frames_of_capture", "taprio_moment", "taprio_streams_late", "taprio_streams_drawn", "taprio_bounds_slack", *_OF_PORT)
+# What a shared object lacks that was built before there were bounds, tables of frames, ports that are driven, late frames, lines of what
+# is shared, or bounds of classes that share.
+_LATER = ("taprio_streams_from", "taprio_bounds", "taprio_frames", "taprio_replay_stamped", "taprio_frames_by_stream", "taprio_frames_of_capture", "taprio_moment", "taprio_streams_late", "taprio_streams_drawn", "taprio_bounds_slack", "taprio_bounds_asked", "taprio_check_shares", *_OF_PORT)
 
 
 def _path() -> str:
@@ -130,12 +131,14 @@ def _typed(library: ctypes.CDLL) -> ctypes.CDLL:
         "taprio_frames_of_capture": [port, *_OCTETS, *_OCTETS, *_LENT, *_LENT, ran],
         "taprio_moment": [*_OCTETS, ctypes.POINTER(_MomentValue)],
         "taprio_check": [ctypes.c_uint32, ctypes.c_uint32, *_OCTETS, *_LENT, *_LENT, ran],
+        "taprio_check_shares": [ctypes.c_uint32, ctypes.c_uint32, *_OCTETS, *_LENT, *_LENT, ran],
         "taprio_streams": [*_OCTETS, *_OCTETS, *_LENT, *_LENT, ran],
         "taprio_streams_from": [ctypes.c_uint64, ctypes.c_uint64, *_OCTETS, *_OCTETS, *_LENT, *_LENT, ran],
         "taprio_streams_late": [ctypes.c_uint64, ctypes.c_uint64, *_OCTETS, *_OCTETS, *_LENT, *_LENT, ran],
         "taprio_streams_drawn": [ctypes.c_uint64, ctypes.c_uint64, ctypes.c_uint64, *_OCTETS, *_OCTETS, *_LENT, *_LENT, ran],
         "taprio_bounds": [port, ctypes.c_uint64, *_OCTETS, *_OCTETS, *_LENT, *_LENT, ran],
         "taprio_bounds_slack": [port, ctypes.c_uint64, *_OCTETS, *_OCTETS, *_LENT, *_LENT, ran],
+        "taprio_bounds_asked": [port, ctypes.c_uint64, ctypes.c_uint32, *_OCTETS, *_OCTETS, *_LENT, *_LENT, ran],
         "taprio_draw": [port, picture, *_OCTETS, *_LENT, *_LENT, ran],
         "taprio_replay": [port, *_OCTETS, *_OCTETS, *_LENT, *_LENT, *_LENT, replay_ran],
         "taprio_replay_stamped": [port, ctypes.c_uint32, *_OCTETS, *_OCTETS, *_LENT, *_LENT, *_LENT, replay_ran],
@@ -214,6 +217,21 @@ def stamp_is_end(stamp: str) -> bool:
     if stamp not in ("start", "end"):
         raise BadValue("bad value of --stamp", "--stamp")
     return stamp == "end"
+
+
+def silent_classes(silent: Iterable[int]) -> tuple[int, ...]:
+    """The classes that send nothing, in rising order; each is one of 0 to 7, and stands there once."""
+    given = sorted(_class_of(it) for it in silent)
+    if len(set(given)) < len(given) or not all(0 <= it <= 7 for it in given):
+        raise BadValue("bad value of --silent", "--silent")
+    return tuple(given)
+
+
+def _class_of(value: Any) -> int:
+    given = index(value)
+    if given is None:
+        raise TypeError(f"silent is whole numbers from 0 to 7, and one is {value!r}")
+    return given
 
 
 def streams_or_capture(streams: Octets | None, capture: Octets | None) -> None:
@@ -307,11 +325,12 @@ def moment(word: str) -> int:
     return int(said.high) << 64 | int(said.low)
 
 
-def check(schedules: Octets, rate: int = 1000, windows: bool = False) -> bytes:
-    """Tells of each schedule command which classes it keeps apart, with `windows` also what it gives each class."""
+def check(schedules: Octets, rate: int = 1000, windows: bool = False, shares: bool = False) -> bytes:
+    """Tells of each schedule command which classes it keeps apart, with `shares` also which classes share windows, and with `windows` what
+    it gives each class."""
     schedules = octets(schedules)
     given = [number(rate, 32, "rate"), bool(windows), schedules, len(schedules)]
-    return _one("taprio_check", given, 4 * len(schedules) + 4096)
+    return _one("taprio_check_shares" if shares else "taprio_check", given, 4 * len(schedules) + 4096)
 
 
 def streams(table: Octets, script: Octets = b"", from_: int = 0, late: bool = False, seed: int | None = None) -> bytes:
@@ -342,18 +361,25 @@ def bounds(
     room: int = 128,
     frames: int = 1_000_000,
     slack: bool = False,
+    silent: Iterable[int] = (),
+    leftovers: bool = False,
 ) -> bytes:
     """Tells for each schedule command how long the frames of a table of streams wait, for ever: the classes that it keeps apart, the
     verdict about each class that has streams, and the least and the greatest wait of each stream, with whether its deadline is met.
 
     `rate`, `mtu` and `room` are those of `run`; `frames`, 1 to 1,000,000,000, is how many frames of a class are looked at, at most. With
-    `slack` it is also told how much jitter each stream with a deadline may have. A
-    deadline that is missed is no fault. `taprio.read_bounds` reads what is told, and `taprio.bounds` does both.
+    `slack` it is also told how much jitter each stream with a deadline may have. The classes in `silent` send nothing, where they have no
+    streams in the table, and it is told which these are; with `leftovers` frames of other classes may wait from before the
+    schedule, but of silent ones. A deadline that is missed is no fault. `taprio.read_bounds` reads what is told, and `taprio.bounds` does both.
     """
-    table, schedules = octets(table), octets(schedules)
+    table, schedules, classes = octets(table), octets(schedules), silent_classes(silent)
     port = ctypes.byref(_port(rate, mtu, room, None, False))
-    given = [port, number(frames, 64, "frames"), table, len(table), schedules, len(schedules)]
-    return _one("taprio_bounds_slack" if slack else "taprio_bounds", given, 4 * (len(table) + len(schedules)) + 4096)
+    limit, texts = number(frames, 64, "frames"), [table, len(table), schedules, len(schedules)]
+    guess = 4 * (len(table) + len(schedules)) + 4096
+    if not classes and not leftovers:
+        return _one("taprio_bounds_slack" if slack else "taprio_bounds", [port, limit, *texts], guess)
+    asked = bool(slack) + 2 * bool(leftovers) + sum(256 << it for it in classes)
+    return _one("taprio_bounds_asked", [port, limit, asked, *texts], guess)
 
 
 def _beginning(begin: int | None) -> tuple[int, int]:

@@ -9,11 +9,12 @@ import shutil
 import subprocess
 import sys
 import tempfile
+from collections.abc import Iterable
 from typing import NoReturn, Protocol, Union
 
 from . import library
 from .faults import BAD_INPUT, BAD_VALUE, LibraryMissing, Replay, TaprioError, of_text
-from .library import Library, Octets, number, octets, seed_of, stamp_is_end, streams_or_capture
+from .library import Library, Octets, number, octets, seed_of, silent_classes, stamp_is_end, streams_or_capture
 
 __all__ = ["Backend", "Chosen", "Program", "backend"]
 
@@ -38,8 +39,8 @@ class Backend(Protocol):
     ) -> bytes:
         """The table of the frames of a script, or of a capture, as comma-separated values; with `streams` also the stream of each."""
 
-    def check(self, schedules: Octets, rate: int = 1000, windows: bool = False) -> bytes:
-        """What schedules keep apart, and their windows."""
+    def check(self, schedules: Octets, rate: int = 1000, windows: bool = False, shares: bool = False) -> bytes:
+        """What schedules keep apart, what is shared, and their windows."""
 
     def streams(
         self, table: Octets, script: Octets = b"", from_: int = 0, late: bool = False, seed: int | None = None
@@ -56,8 +57,11 @@ class Backend(Protocol):
         room: int = 128,
         frames: int = 1_000_000,
         slack: bool = False,
+        silent: Iterable[int] = (),
+        leftovers: bool = False,
     ) -> bytes:
-        """How long the frames of a table wait under each schedule, for ever; with `slack` also how much jitter each stream may have."""
+        """How long the frames of a table wait under each schedule, for ever; with `slack` also how much jitter each stream may have. The
+        classes in `silent` send nothing, and with `leftovers` frames may wait from before the schedule."""
 
     def draw(
         self,
@@ -154,10 +158,10 @@ class Program:
             return self._one(words, script)
         return self._with_file([*words, "--by-stream", "table"], "table", octets(streams), script)
 
-    def check(self, schedules: Octets, rate: int = 1000, windows: bool = False) -> bytes:
+    def check(self, schedules: Octets, rate: int = 1000, windows: bool = False, shares: bool = False) -> bytes:
         """Tells of each schedule command what it keeps apart, as `taprio.check` does."""
         schedules = octets(schedules)
-        words = ["check", "--rate", str(number(rate, 32, "rate")), *(["--windows"] if windows else [])]
+        words = ["check", "--rate", str(number(rate, 32, "rate")), *(["--shares"] if shares else []), *(["--windows"] if windows else [])]
         return self._one(words, schedules)
 
     def _with_file(self, words: list[str], name: str, content: bytes, input: bytes) -> bytes:
@@ -187,11 +191,15 @@ class Program:
         room: int = 128,
         frames: int = 1_000_000,
         slack: bool = False,
+        silent: Iterable[int] = (),
+        leftovers: bool = False,
     ) -> bytes:
         """Tells how long the frames of a table wait under each schedule, as `taprio.library.bounds` does."""
-        table, schedules = octets(table), octets(schedules)
-        words = ["bounds", *self._port(rate, mtu, room, None, False), "--frames", str(number(frames, 64, "frames")), *(["--slack"] if slack else []), "table"]
-        return self._with_file(words, "table", table, schedules)
+        table, schedules, classes = octets(table), octets(schedules), silent_classes(silent)
+        words = ["bounds", *self._port(rate, mtu, room, None, False), "--frames", str(number(frames, 64, "frames"))]
+        words += ["--silent", ",".join(map(str, classes))] if classes else []
+        words += [*(["--leftovers"] if leftovers else []), *(["--slack"] if slack else [])]
+        return self._with_file([*words, "table"], "table", table, schedules)
 
     def draw(
         self,

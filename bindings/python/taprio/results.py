@@ -37,6 +37,7 @@ __all__ = [
     "Refused",
     "Report",
     "Run",
+    "Shares",
     "Started",
     "StreamBound",
     "TcFault",
@@ -300,14 +301,23 @@ class Window:
 
 
 @dataclasses.dataclass(frozen=True)
+class Shares:
+    """A class, and the others that share windows with it, from the lowest up: at some moment of the cycle both are open."""
+
+    traffic_class: int
+    others: tuple[int, ...]
+
+
+@dataclasses.dataclass(frozen=True)
 class Checked:
-    """What was told of one schedule: the classes that it keeps apart, its windows, and the classes that a priority leads to and that it never
-    opens; or why it is none."""
+    """What was told of one schedule: the classes that it keeps apart, its windows, the classes that a priority leads to and that it never
+    opens, and the classes that share windows with others, where these were asked for; or why it is none."""
 
     apart: tuple[int, ...] | None
     windows: tuple[Window, ...] = ()
     fault: Refused | TcFault | None = None
     never: tuple[int, ...] = ()
+    shares: tuple[Shares, ...] = ()
 
 
 @dataclasses.dataclass(frozen=True)
@@ -333,8 +343,12 @@ class ClassVerdict:
     verdict: str
     """"bounded" where each frame finds room and its wait has a bound; "within" where it has one whenever the frames come; "full" where a
     frame finds its queue full; "stuck" where a frame fits into no window, so that those behind it wait for ever; "overloaded" where no
-    frame found its queue full yet, but the backlog grows for ever; "shared" where the schedule doesn't keep the class apart; "long" where
-    more frames had to be looked at than was allowed; "late" where a moment is after the greatest."""
+    frame found its queue full yet, but the backlog grows for ever; "long" where more frames had to be looked at than was allowed; "late"
+    where a moment is after the greatest.
+
+    Of a class that shares its windows there are also "open" where classes above it may send in them, and nothing else is known of these;
+    "behind" where a class above it has streams and no bounds; and "blocked" where its longest frame fits into no window behind a frame of
+    another class that may have the wire when the window opens."""
     most: int | None = None
     """The greatest number of frames that ever wait at once; for "bounded" and "within", as `room`. Where a class that is "within" has more
     than there is room, some may be dropped."""
@@ -358,6 +372,10 @@ class ClassVerdict:
     """The first id of its stream."""
     stuck_frame: int | None = None
     """Which frame of its stream it is, from 1."""
+    open_to: tuple[int, ...] = ()
+    """For "open", these classes, in rising order."""
+    behind: int | None = None
+    """For "behind", that class."""
 
 
 @dataclasses.dataclass(frozen=True)
@@ -370,8 +388,9 @@ class StreamBound:
     """Its class; None where each frame is dropped."""
     verdict: str
     """"bounded" where the four times are there, and some frames reach them; "within" where they are there, and hold whenever the frames
-    come; "none" where the class loses frames or one never leaves; "unknown" where the class is shared or has too little room, or no answer
-    was found; "dropped" where each frame is dropped when it comes, or each of the shortest.
+    come; "none" where the class loses frames or one never leaves; "unknown" where the class has too little room, or no answer was found, as
+    of one that shares its windows and is "open", "behind", "blocked" or "stuck"; "dropped" where each frame is dropped when it comes, or
+    each of the shortest.
 
     The times that are "within" count from a frame's nominal moment where its stream has an offset, so that the jitter is in them; with the
     offset `any`, and where they are "bounded", from its arrival."""
@@ -400,6 +419,8 @@ class Bounded:
     classes: tuple[ClassVerdict, ...] = ()
     streams: tuple[StreamBound, ...] = ()
     fault: Refused | TcFault | None = None
+    silent: tuple[int, ...] | None = None
+    """The classes that are taken to send nothing: those of which it was said, and that have no streams. None where it was said of none."""
 
 
 def _stream_finding(stream: StreamBound) -> str | None:
@@ -731,6 +752,7 @@ _WINDOW = re.compile(
 )
 _NEVER = re.compile(r"never (\d+)")
 _APART = re.compile(r"apart ((?:\d )*\d|none)")
+_SHARES = re.compile(r"shares (\d) with ((?:\d )*\d)")
 
 
 def _wait_of(text: str | None) -> int | None:
@@ -754,13 +776,16 @@ def _window(found: re.Match[str]) -> Window:
 
 
 def read_check(answers: Octets) -> Check:
-    """What a check tells of each schedule, with and without windows. A text that no check writes raises `BadAnswer`."""
+    """What a check tells of each schedule, with and without windows and what is shared. A text that no check writes raises `BadAnswer`."""
     found: list[Checked] = []
     for number, line in enumerate(octets(answers).decode("utf-8", "replace").splitlines(), 1):
-        apart, window, never = _APART.fullmatch(line), _WINDOW.fullmatch(line), _NEVER.fullmatch(line)
+        apart, shares, window, never = (form.fullmatch(line) for form in (_APART, _SHARES, _WINDOW, _NEVER))
         last = found[-1] if found and found[-1].apart is not None else None
         if apart:
             found.append(Checked(() if apart[1] == "none" else tuple(map(int, apart[1].split()))))
+        elif shares and last:
+            one = Shares(int(shares[1]), tuple(map(int, shares[2].split())))
+            found[-1] = dataclasses.replace(last, shares=(*last.shares, one))
         elif window and last:
             found[-1] = dataclasses.replace(last, windows=(*last.windows, _window(window)))
         elif never and last:
@@ -774,7 +799,7 @@ def read_check(answers: Octets) -> Check:
 
 
 _CLASS = re.compile(
-    r"class (\d+) (?:(shared|overloaded|long|late|stuck)|(within )?most (\d+) of (\d+)(?(3)| frames (\d+) every (\d+))"
+    r"class (\d+) (?:(blocked|overloaded|long|late|stuck)|open to ((?:\d )*\d)|behind (\d)|(within )?most (\d+) of (\d+)(?(5)| frames (\d+) every (\d+))"
     r"|(?=full|stuck)(?:(stuck) at (\d+) stream (\d+) frame (\d+))? ?(?:(full) at (\d+) stream (\d+) frame (\d+))?)"
 )
 _BOUND = re.compile(
@@ -783,6 +808,7 @@ _BOUND = re.compile(
 )
 
 
+_SILENT = re.compile(r"silent((?: \d)*)")
 _SLACK = re.compile(r"slack (\d+) (?:none|jitter (\d+))")
 
 
@@ -790,11 +816,22 @@ def _number(text: str | None) -> int | None:
     return None if text is None else int(text)
 
 
+def _classes(text: str) -> tuple[int, ...]:
+    return tuple(map(int, text.split()))
+
+
 def _verdict(found: re.Match[str]) -> ClassVerdict:
     """The verdict of a line about a class."""
-    class_, word, within, most, room, frames, every, stuck, stuck_at, stuck_stream, stuck_frame, full, at, stream, frame = found.groups()
+    class_, word, open_to, behind, within, most, room, frames, every, stuck, stuck_at, stuck_stream, stuck_frame, full, at, stream, frame = found.groups()
+    shared = "open" if open_to else "behind" if behind else None
     numbers = (most, room, frames, every, at, stream, frame, stuck_at, stuck_stream, stuck_frame)
-    return ClassVerdict(int(class_), word or stuck or full or ("within" if within else "bounded"), *map(_number, numbers))
+    return ClassVerdict(
+        int(class_),
+        word or shared or stuck or full or ("within" if within else "bounded"),
+        *map(_number, numbers),
+        open_to=_classes(open_to or ""),
+        behind=_number(behind),
+    )
 
 
 def _bound(found: re.Match[str]) -> StreamBound:
@@ -819,10 +856,12 @@ def read_bounds(answers: Octets) -> Bounds:
     """What bounds tell of each schedule. A text that no bounds write raises `BadAnswer`."""
     found: list[Bounded] = []
     for number, line in enumerate(octets(answers).decode("utf-8", "replace").splitlines(), 1):
-        apart, verdict, bound, slack = (form.fullmatch(line) for form in (_APART, _CLASS, _BOUND, _SLACK))
+        apart, silent, verdict, bound, slack = (form.fullmatch(line) for form in (_APART, _SILENT, _CLASS, _BOUND, _SLACK))
         last = found[-1] if found and found[-1].apart is not None else None
         if apart:
-            found.append(Bounded(() if apart[1] == "none" else tuple(map(int, apart[1].split()))))
+            found.append(Bounded(() if apart[1] == "none" else _classes(apart[1])))
+        elif silent and last and last == Bounded(last.apart):
+            found[-1] = dataclasses.replace(last, silent=_classes(silent[1]))
         elif verdict and last and not last.streams:
             found[-1] = dataclasses.replace(last, classes=(*last.classes, _verdict(verdict)))
         elif bound and last:

@@ -169,16 +169,23 @@ def bounds(
     room: int = 128,
     frames: int = 1_000_000,
     slack: bool = False,
+    silent: Iterable[int] = (),
+    leftovers: bool = False,
     port: Chosen = None,
 ) -> Bounds:
-    """How long the frames of periodic streams wait under a schedule, for ever: the least and the greatest wait of each stream of a class
-    that the schedule keeps apart, whatever the other classes send, and whether its deadline is met. Where a stream of a class has a jitter,
-    several lengths or the offset None, the bounds of the class hold whenever its frames come.
+    """How long the frames of periodic streams wait under a schedule, for ever: the least and the greatest wait of each stream, and whether
+    its deadline is met. Where a stream of a class has a jitter, several lengths or the offset None, the bounds of the class hold whenever
+    its frames come.
+
+    Of a class that the schedule keeps apart they hold whatever the other classes send. Those of a class that shares its windows stand on
+    what is known of the classes above it there: that they send the streams of the table, or that they are `silent` and send nothing, where
+    they have no streams. Where neither is known of one of them, there are no bounds. With `leftovers` frames of other classes may wait
+    from before the schedule, but of silent ones. `silent` are classes from 0 to 7, each once, such as `(6, 7)`; others raise `BadValue`.
 
     `schedule` may also be `tc` lines, each of which is judged by itself, and `streams` a table. The offsets of the streams count from the
     moment at which the schedule comes into force, and each stream goes on for ever: its `count` is no matter, and a period of 0 raises
     `BadInput`. `rate` is in Mb/s, `mtu` in octets, `room` in frames of a class, and `frames`, 1 to 1,000,000,000, is how many frames of a
     class are looked at, at most. With `slack` each stream with a deadline also has the greatest jitter with which it still makes it. What
     runs it is `port`, as `taprio.backend` says. Times of the answer are picoseconds."""
-    told = backend(port).bounds(_table(streams), lines(schedule), rate=rate, mtu=mtu, room=room, frames=frames, slack=slack)
+    told = backend(port).bounds(_table(streams), lines(schedule), rate=rate, mtu=mtu, room=room, frames=frames, slack=slack, silent=silent, leftovers=leftovers)
     return read_bounds(told)

@@ -27,6 +27,7 @@ if PROGRAM:
     os.environ["TAPRIO_PORT"] = PROGRAM
 HAS_LIBRARY = taprio.library.is_there()
 HAS_BOUNDS = HAS_LIBRARY and taprio.library.has("taprio_bounds")
+HAS_BOUNDS_ASKED = HAS_LIBRARY and taprio.library.has("taprio_bounds_asked")
 HAS_FRAMES = HAS_LIBRARY and taprio.library.has("taprio_frames")
 HAS_FRAMES_BY_STREAM = HAS_LIBRARY and taprio.library.has("taprio_frames_by_stream")
 HAS_FRAMES_OF_CAPTURE = HAS_LIBRARY and taprio.library.has("taprio_frames_of_capture")

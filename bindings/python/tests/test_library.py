@@ -19,7 +19,11 @@ def octets(name):
 
 
 SCHEDULE = "tc qdisc replace dev eth0 root taprio num_tc 2 map 0 1 base-time 0 sched-entry S 2 50000 sched-entry S 1 200000\n"
+SHARED = "tc qdisc replace dev eth0 root taprio num_tc 3 map 0 1 2 sched-entry S 4 100000 sched-entry S 3 400000\n"
 STREAM = "stream 1 1 60 250us 60us 1 deadline 200us\n"
+TOGETHER = "tc qdisc replace dev eth0 root taprio num_tc 2 map 0 1 base-time 0 sched-entry S 3 50000 sched-entry S 0 50000\n"
+ALONE = "class 0 within most 1 of 128\nbound 2 class 0 within 0 to 50671999 end 672000 to 51343999 deadline 1000000000 met\n"
+ABOVE = "class 1 within most 1 of 128\nbound 1 class 1 within 0 to 63007998 end 672000 to 63679998\n"
 BOUNDED = b"""\
 apart 0 1
 class 1 most 1 of 128 frames 1 every 250000000
@@ -154,12 +158,16 @@ class Bounds:
             ("--frames", {"frames": -1}),
             ("--frames", {"frames": 1_000_000_001}),
             ("--frames", {"frames": 2**64 + 1}),
+            ("--silent", {"silent": (8,)}),
+            ("--silent", {"silent": [-1], "leftovers": True}),
+            ("--silent", {"silent": (6, 6)}),
         ):
             with self.subTest(values), self.assertRaises(taprio.BadValue) as raised:
                 self.port.bounds("", "", **values)
             self.assertEqual(raised.exception.option, option)
-        with self.assertRaises(TypeError):
-            self.port.bounds("", "", frames=1.0)
+        for values in ({"frames": 1.0}, {"silent": "6,7"}, {"silent": (True,)}, {"silent": 6}):
+            with self.subTest(values), self.assertRaises(TypeError):
+                self.port.bounds("", "", **values)
 
     def test_streams_from_a_moment(self):
         table = "stream 1 5 60 250us 1ps 1"
@@ -174,6 +182,28 @@ class Bounds:
             self.assertEqual(raised.exception.option, "--from")
         with self.assertRaises(TypeError):
             self.port.streams(table, from_=0.5)
+
+
+class BoundsAsked:
+    """Where the library has the call, and of the program."""
+
+    def test_what_is_asked_of_bounds(self):
+        """Silent classes, leftovers and slack, alone and together; the order of the classes is no matter."""
+        low, both = "stream 2 0 60 1ms 0us 1 deadline 1ms\n", "stream 1 1 60 1ms any 1\nstream 2 0 60 1ms 0us 1\n"
+        for table, asked, wanted in (
+            (low, {}, "class 0 open to 1\nbound 2 class 0 unknown deadline 1000000000 unknown\n"),
+            (low, {"silent": ()}, "class 0 open to 1\nbound 2 class 0 unknown deadline 1000000000 unknown\n"),
+            (low, {"slack": True}, "class 0 open to 1\nbound 2 class 0 unknown deadline 1000000000 unknown\nslack 2 none\n"),
+            (low, {"silent": [1]}, f"silent 1\n{ALONE}"),
+            (low, {"silent": [7, 1], "leftovers": True}, f"silent 1 7\n{ALONE}"),
+            (low, {"silent": {0}}, "silent\nclass 0 open to 1\nbound 2 class 0 unknown deadline 1000000000 unknown\n"),
+            (low, {"silent": (1,), "leftovers": True, "slack": True}, f"silent 1\n{ALONE}slack 2 jitter 948656000\n"),
+            (both, {}, f"class 0 within most 1 of 128\n{ABOVE}bound 2 class 0 within 0 to 52015998 end 672000 to 52687998\n"),
+            (both, {"leftovers": True}, f"class 0 open to 1\n{ABOVE}bound 2 class 0 unknown\n"),
+        ):
+            with self.subTest(table=table, asked=asked):
+                self.assertEqual(self.port.bounds(table, TOGETHER, **asked).decode(), f"apart none\n{wanted}")
+        self.assertEqual(self.port.bounds("", f"tc qdisc del dev eth0 root\n{TOGETHER}", silent=range(8)), b"apart none\napart none\nsilent 0 1 2 3 4 5 6 7\n")
 
 
 class Examples:
@@ -194,6 +224,9 @@ class Examples:
     def test_checks(self):
         self.assertEqual(self.port.check(octets("apart.schedules")), octets("apart.answers"))
         self.assertEqual(self.port.check(octets("windows.schedules"), windows=True), octets("windows.answers"))
+        self.assertEqual(self.port.check(SHARED, shares=True), b"apart 2\nshares 0 with 1\nshares 1 with 0\n")
+        apart, windows = self.port.check(SHARED), self.port.check(SHARED, windows=True)
+        self.assertEqual(self.port.check(SHARED, 1000, True, True), windows.replace(apart, self.port.check(SHARED, shares=True)))
 
     def test_streams(self):
         self.assertEqual(self.port.streams(octets("planned.streams"), octets("planned.schedule")), octets("planned.script"))
@@ -352,11 +385,21 @@ class OverTheLibrary(Examples, Faults, Room, unittest.TestCase):
                 taprio.library.bounds("", "")
             with self.assertRaisesRegex(taprio.LibraryMissing, "no taprio_streams_from"):
                 taprio.library.streams("", from_=1)
+        with mock.patch.object(taprio.library, "_loaded", lambda path: mock.Mock(spec=["taprio_bounds", "taprio_bounds_slack"])):
+            for asked in ({"silent": (7,)}, {"leftovers": True}):
+                with self.assertRaisesRegex(taprio.LibraryMissing, "no taprio_bounds_asked: build it again"):
+                    taprio.library.bounds("", "", **asked)
 
 
 @support.wants_library
 @unittest.skipUnless(support.HAS_BOUNDS, "the library has no bounds: bindings/c/build makes it anew")
 class BoundsOverTheLibrary(Bounds, unittest.TestCase):
+    port = taprio.Library()
+
+
+@support.wants_library
+@unittest.skipUnless(support.HAS_BOUNDS_ASKED, "this library has no taprio_bounds_asked: build it again with bindings/c/build")
+class BoundsAskedOverTheLibrary(BoundsAsked, unittest.TestCase):
     port = taprio.Library()
 
 
@@ -392,7 +435,7 @@ class Moments(unittest.TestCase):
 
 
 @support.wants_program
-class OverTheProgram(Examples, Faults, Room, Bounds, Frames, FramesByStream, FramesOfCapture, unittest.TestCase):
+class OverTheProgram(Examples, Faults, Room, Bounds, BoundsAsked, Frames, FramesByStream, FramesOfCapture, unittest.TestCase):
     port = taprio.Program(support.PROGRAM or "taprio_port")
 
     def test_no_program(self):
@@ -540,6 +583,7 @@ class Whichever(unittest.TestCase):
         for given in (schedule, taprio.schedules.Configured(schedule), SCHEDULE, SCHEDULE.encode()):
             self.assertEqual(taprio.check(given), b"apart 0 1\n")
         self.assertEqual(taprio.check(schedule, rate=100, windows=True), chosen.check(SCHEDULE, 100, True))
+        self.assertEqual(taprio.check(SHARED, shares=True), chosen.check(SHARED, shares=True))
         for wrong in (5, None, {}):
             with self.assertRaises(TypeError):
                 taprio.check(wrong)

@@ -200,6 +200,9 @@ class Checks(unittest.TestCase):
         self.assertEqual([it.never for it in found.schedules[:2]], [(), (2,)])
         always = found.schedules[3].windows[0]
         self.assertEqual((always.open, always.closed, always.frame, always.wait), (None, 0, None, 0))
+        shared = taprio.read_check(b"apart 3\nshares 0 with 1\nshares 1 with 0 2\nshares 2 with 1\nnever 3\napart none\n").schedules
+        self.assertEqual(shared[0].shares, (results.Shares(0, (1,)), results.Shares(1, (0, 2)), results.Shares(2, (1,))))
+        self.assertEqual((shared[0].never, shared[1].shares), ((3,), ()))
         given = taprio.read_check(b"apart 0\nwindow class 0 open 1 closed 1 share 1 of 2 frame 3 wait 4 length 5 wait none\n")
         self.assertEqual(given.schedules[0].windows[0], results.Window(0, 1, 1, 1, 2, 3, 4, 5, None))
         self.assertEqual(
@@ -228,6 +231,9 @@ class Checks(unittest.TestCase):
             b"refused X 0\nwindow class 0 open 1 closed 1 share 1 of 2 frame 3 wait 4\n",
             b"refused X 0\nnever 1\n",
             b"never 1\n",
+            b"shares 0 with 1\n",
+            b"apart none\nshares 0 with\n",
+            b"refused X 0\nshares 0 with 1\n",
         ):
             with self.subTest(text), self.assertRaises(taprio.BadAnswer):
                 taprio.read_check(text)
@@ -332,7 +338,7 @@ def known(frame):
 class Bounds(unittest.TestCase):
     ANSWERS = b"""\
 apart 1 2 3
-class 0 shared
+class 0 open to 4 5
 class 1 most 3 of 128 frames 5 every 500000000
 class 2 full at 63510000000 stream 300 frame 509
 class 3 stuck at 10 stream 501 frame 1 full at 128000000000 stream 500 frame 129
@@ -357,6 +363,18 @@ bound 2 class 7 within 0 to 245 end 6 to 246 deadline 100 unknown
 bound 3 class 7 within 0 to 240 end 17 to 242
 bound 4 class 5 unknown
 bound 5 class 6 none deadline 10 missed
+apart none
+silent 4 6
+class 0 blocked
+class 1 behind 3
+class 2 within most 1 of 128
+class 3 stuck
+class 5 open to 7
+bound 2 class 2 within 0 to 5 end 1 to 6 deadline 7 met
+slack 2 jitter 1000
+bound 3 class 3 unknown
+apart 7
+silent
 """
 
     def test_kinds(self):
@@ -366,7 +384,7 @@ bound 5 class 6 none deadline 10 missed
             results.Bounded(
                 (1, 2, 3),
                 (
-                    results.ClassVerdict(0, "shared"),
+                    results.ClassVerdict(0, "open", open_to=(4, 5)),
                     results.ClassVerdict(1, "bounded", 3, 128, 5, 500000000),
                     results.ClassVerdict(2, "full", at=63510000000, stream=300, frame=509),
                     results.ClassVerdict(3, "stuck", at=128000000000, stream=500, frame=129, stuck_at=10, stuck_stream=501, stuck_frame=1),
@@ -398,9 +416,26 @@ bound 5 class 6 none deadline 10 missed
                         results.StreamBound(5, 6, "none", deadline=10, met=False),
                     ),
                 ),
+                results.Bounded(
+                    (),
+                    (
+                        results.ClassVerdict(0, "blocked"),
+                        results.ClassVerdict(1, "behind", behind=3),
+                        results.ClassVerdict(2, "within", 1, 128),
+                        results.ClassVerdict(3, "stuck"),
+                        results.ClassVerdict(5, "open", open_to=(7,)),
+                    ),
+                    (
+                        results.StreamBound(2, 2, "within", 0, 5, 1, 6, None, 7, True, 1000),
+                        results.StreamBound(3, 3, "unknown"),
+                    ),
+                    silent=(4, 6),
+                ),
+                results.Bounded((7,), silent=()),
             ),
         )
-        self.assertEqual([row["schedule"] for row in found.class_rows()], [0, 0, 0, 0, 3, 3, 3, 4, 4, 4])
+        self.assertEqual([row["schedule"] for row in found.class_rows()], [0, 0, 0, 0, 3, 3, 3, 4, 4, 4, 5, 5, 5, 5, 5])
+        self.assertEqual([it.silent for it in found.schedules], [None] * 5 + [(4, 6), ()])
         within = found.rows()[6]
         self.assertEqual((within["schedule"], within["verdict"], within["greatest_end"], within["met"]), (4, "within", 246, True))
         self.assertEqual(
@@ -440,12 +475,21 @@ bound 5 class 6 none deadline 10 missed
 
     def test_no_answers(self):
         for text, line in (
-            (b"class 1 shared\n", 1),
+            (b"class 1 long\n", 1),
+            (b"apart none\nclass 1 shared\n", 2),
+            (b"apart none\nclass 1 open to\n", 2),
+            (b"apart none\nclass 1 behind\n", 2),
+            (b"apart none\nclass 1 open to 2 most 1 of 2\n", 2),
+            (b"silent 1\n", 1),
+            (b"apart none\nsilent none\n", 2),
+            (b"apart none\nsilent\nsilent\n", 3),
+            (b"apart none\nclass 1 long\nsilent 2\n", 3),
+            (b"refused MapMissing\nsilent 2\n", 2),
             (b"bound 1 class 1 none\n", 1),
             (b"apart\n", 1),
             (b"apart 1\nqueued 1 class 0\n", 2),
             (b"refused MapMissing\nbound 1 class 1 none\n", 2),
-            (b"apart 1\nbound 1 class 1 none\nclass 1 shared\n", 3),
+            (b"apart 1\nbound 1 class 1 none\nclass 1 long\n", 3),
             (b"apart 1\nclass 1 most 1 of 2\n", 2),
             (b"apart 1\nclass 1 most 1 of 2 every 3\n", 2),
             (b"apart 1\nclass 1 within most 1\n", 2),
@@ -502,6 +546,34 @@ bound 5 class 6 none deadline 10 missed
         short = taprio.Schedule([(0x02, 800), (0x01, 249_200)], map=LOOP.map)
         stuck = taprio.bounds(short, [dataclasses.replace(free, length=100)], port=support.PROGRAM)
         self.assertEqual((stuck.schedules[0].classes, stuck.finding), ((results.ClassVerdict(1, "stuck"),), "class 1: stuck"))
+
+    @support.wants_program
+    def test_shared_windows(self):
+        """A class that shares its windows: what it is open to, with these silent, behind a class with streams, with leftovers, and blocked."""
+        both = taprio.Schedule([(0x03, 50_000), (0x00, 50_000)], map=LOOP.map)
+        low, high = taprio.Stream(1, 0, 60, 1_000_000, deadline=1_000_000), taprio.Stream(9, 6, 60, 1_000_000, None)
+
+        def told(streams, schedule=both, **asked):
+            return taprio.bounds(schedule, streams, port=support.PROGRAM, **asked).schedules[0]
+
+        within = [results.ClassVerdict(number, "within", 1, 128) for number in (0, 1)]
+        open_to = results.ClassVerdict(0, "open", open_to=(1,))
+        self.assertEqual(told([low]), results.Bounded((), (open_to,), (results.StreamBound(1, 0, "unknown", deadline=1_000_000_000),)))
+        for asked in ({}, {"leftovers": True}, {"slack": True}):
+            with self.subTest(asked):
+                alone = told([low], silent=(1,), **asked)
+                self.assertEqual((alone.silent, alone.classes), ((1,), (within[0],)))
+                times = (0, 50_671_999, 672_000, 51_343_999, None, 1_000_000_000, True)
+                slack = 948_656_000 if asked.get("slack") else None
+                self.assertEqual(alone.streams, (results.StreamBound(1, 0, "within", *times, slack),))
+        self.assertEqual(told([low, high]).classes, tuple(within))
+        self.assertIsNone(told([low, high]).silent)
+        self.assertEqual(told([low, high], leftovers=True).classes, (open_to, within[1]))
+        named = told([low, high], silent={0, 1})
+        self.assertEqual((named.silent, named.classes), ((), tuple(within)))
+        late = taprio.Schedule([(0x01, 20_000), (0x03, 5_000), (0x00, 50_000)], map=LOOP.map)
+        longer = dataclasses.replace(low, length=1514)
+        self.assertEqual(told([longer, high], late).classes, (results.ClassVerdict(0, "behind", behind=1), results.ClassVerdict(1, "blocked")))
 
     @support.wants_bounds
     def test_random_bounds(self):
