@@ -130,7 +130,7 @@ def simulated(program, world, until, folder):
 
 
 def told(program, world, folder):
-    """What is told of each class, and of each stream."""
+    """What is told of each class that is kept apart, and of each stream of such a class; of the others that they share."""
     with open(os.path.join(folder, "table"), "wb") as file:
         file.write(table(world))
     words = ["bounds", "--rate", str(world.rate), "--room", str(world.room), "--frames", str(FRAMES), "table"]
@@ -138,7 +138,9 @@ def told(program, world, folder):
     classes = {int(line.split()[1]): line.split()[2:] for line in lines if line.startswith("class ")}
     bounds = [line.split()[2:] for line in lines if line.startswith("bound ")]
     assert len(bounds) == len(world.streams), lines
-    return classes, bounds
+    apart = {int(number) for number in lines[0].split()[1:] if number != "none"}
+    classes = {number: said if number in apart else ["shared"] for number, said in classes.items()}
+    return classes, [said if stream.priority in apart else ["shared"] for stream, said in zip(world.streams, bounds)]
 
 
 def agrees_bounded(world, run, number, said, bounds):

@@ -70,6 +70,11 @@ def told(program, world, folder):
     return classes, [line.split()[2:] for line in lines if line.startswith("bound ")]
 
 
+def is_apart(world, number):
+    """Whether each entry that opens the class opens it alone. The bounds of others hold, and need not be reached."""
+    return all(mask == 1 << number for mask, _ in world.entries if mask >> number & 1)
+
+
 def comes(chance, world, begin, count):
     """Moments, ids and lengths of each stream's frames, in picoseconds since the change moment. Those of any offset begin at a moment. By chance each comes
     when and as long as it may; else as late as it may or, of any offset, as close behind one another as they may, with the longest length."""
@@ -204,7 +209,7 @@ def reaches_windows(program, seed, folder):
     tried = 0
     for number, said in classes.items():
         own = [place for place, stream in enumerate(it.streams) if stream.priority == number]
-        if said[0] != "within" or int(said[2]) > 128:
+        if said[0] != "within" or int(said[2]) > 128 or not is_apart(it, number):
             continue
         counts = looked_at(it, own)
         for place in own:
@@ -243,7 +248,7 @@ def agrees(program, seed, folder):
     for number, said in classes.items():
         own = [stream for stream in it.streams if stream.priority == number]
         alike = all(stream.offset is None and stream.len == stream.shortest == own[0].len for stream in own)
-        if said[0] == "within" and alike and int(said[2]) <= 128 and seed % 8 == 0:
+        if said[0] == "within" and alike and int(said[2]) <= 128 and seed % 8 == 0 and is_apart(it, number):
             reaches(program, it, classes, bounds, number, folder)
             kinds.append("reached")
     return kinds

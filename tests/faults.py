@@ -116,6 +116,7 @@ HELPED = {
     "ValueKind::Map": ((["check", "--map", "8"], b"", {}), "--map is 1 to 16 classes"),
     "ValueKind::Frame": ((["check", "--frame", "long"], b"", {}), "--frame is a whole number of octets"),
     "ValueKind::Frames": (bounds(STREAM, b"", "--frames", "0"), "--frames is a whole number from 1"),
+    "ValueKind::Silent": (bounds(STREAM, b"", "--silent", "6,8"), "--silent is classes from 0 to 7"),
     "ValueKind::Until": (replay(HEADER, "--until", "4294967297s"), "--until is picoseconds"),
     "ValueKind::Stamp": (replay(HEADER, "--stamp", "last"), "--stamp is start or end"),
     "ValueKind::Seed": ((["streams", "--seed", "x"], b"", {}), "--seed is a whole number from 0"),

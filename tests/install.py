@@ -1,12 +1,15 @@
 """The install of the program: what is put where, from what is built, and that nothing is put there where a step fails."""
+import errno
 import os
 import pathlib
 import shutil
 import subprocess
 import tempfile
+import time
 
 TOP = pathlib.Path(__file__).resolve().parent.parent
 SECONDS = 60
+TRIES = 20
 # Where each file goes, and which it is.
 PLACES = {
     "share/man/man1/taprio_port.1": "docs/taprio_port.1",
@@ -39,8 +42,16 @@ class Checkout:
     def ran(self, command, *words, **variables):
         """The status and standard error of one of its commands, run in the folder that it lies in."""
         given = {name: value for name, value in os.environ.items() if name != "DESTDIR"} | variables
-        ran = subprocess.run([self.top / command, *words], cwd=self.top.parent, env=given, capture_output=True, text=True, timeout=SECONDS)
-        return ran.returncode, ran.stdout, ran.stderr
+        for left in reversed(range(TRIES)):
+            try:
+                ran = subprocess.run([self.top / command, *words], cwd=self.top.parent, env=given, capture_output=True, text=True, timeout=SECONDS)
+            except OSError as fault:
+                # (a process that another test began just now may still hold the file that was copied here, open for writing: execve(2))
+                if fault.errno != errno.ETXTBSY or not left:
+                    raise
+                time.sleep(0.1)
+            else:
+                return ran.returncode, ran.stdout, ran.stderr
 
 
 def files(folder):
