@@ -137,7 +137,7 @@ blocked_for_ever_law may own pitch blocking flows from every these r t s le h = 
     (λ i f e. (these i f e).0) r t s le h
 
 pub blocked_bounds_law : BlockedBoundsLaw
-blocked_bounds_law ps mtu room class pitch need blocking a plan events flows numbers waits from every sharing gradual run short these come
+blocked_bounds_law ps mtu room class pitch need blocking a plan events flows numbers waits from every sharing wide gradual run short these come
     recurs bounded k i n wait f flow e number place time =
     let latest : ℕ = (window_of flow n).latest in
     let late = late_enough (IsBlockedLate (may_by plan class) (need class) pitch blocking flows)
@@ -146,5 +146,5 @@ blocked_bounds_law ps mtu room class pitch need blocking a plan events flows num
     (suc latest) i n wait flow place time
     (let z : latest < suc latest = omega arith in z) in
     stream_frame ps mtu room class a plan events flows numbers k i n wait late.0 f flow run come e number place late.2
-    (blocked_window_law ps mtu room class pitch need blocking a plan events flows numbers sharing gradual run short these come k i n late.0
+    (blocked_window_law ps mtu room class pitch need blocking a plan events flows numbers sharing wide gradual run short these come k i n late.0
     f flow e number place late.1)

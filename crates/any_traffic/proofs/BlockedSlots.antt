@@ -59,10 +59,10 @@ module _ (may : ℕ → ℕ → Bool) (own pitch : ℕ) (blocking : ℕ → ℕ)
 
   -- ---- openings
 
-  opens_at : (o : ℕ) → may (o - 1) 1 ≡ false → may o (blocking o + own) ≡ true → is_opening may own pitch blocking o ≡ true
+  opens_at : (o : ℕ) → may (o - 1) 1 ≡ false → may o (blocking o + own) ≡ true → is_opening may own blocking o ≡ true
   opens_at o closed opened = ap (λ b. not b && may o (blocking o + own)) closed ∙ opened
 
-  closed_at : (o : ℕ) → is_opening may own pitch blocking o ≡ true → may (o - 1) 1 ≡ false
+  closed_at : (o : ℕ) → is_opening may own blocking o ≡ true → may (o - 1) 1 ≡ false
   closed_at o opens = by (may (o - 1) 1) refl (and_parts _ _ opens).0
     where
       by : (b : Bool) → may (o - 1) 1 ≡ b → not b ≡ true → may (o - 1) 1 ≡ false
@@ -71,15 +71,15 @@ module _ (may : ℕ → ℕ → Bool) (own pitch : ℕ) (blocking : ℕ → ℕ)
 
   -- one behind a moment, and none between the two
   abbrev IsFirstOpening : ℕ → ℕ → Type 0
-  IsFirstOpening t u = (t < u) × (is_opening may own pitch blocking u ≡ true) ×
-      ((v : ℕ) → t < v → v < u → is_opening may own pitch blocking v ≡ false)
+  IsFirstOpening t u = (t < u) × (is_opening may own blocking u ≡ true) ×
+      ((v : ℕ) → t < v → v < u → is_opening may own blocking v ≡ false)
 
-  first_opening : (n t o : ℕ) → t + suc n ≡ o → is_opening may own pitch blocking o ≡ true → (u : ℕ) × IsFirstOpening t u × (u ≤ o)
+  first_opening : (n t o : ℕ) → t + suc n ≡ o → is_opening may own blocking o ≡ true → (u : ℕ) × IsFirstOpening t u × (u ≤ o)
   first_opening zero t o is opens = (o, (omega (arith, is), opens, λ v after before. absurd (omega (arith, after, before, is))), le_refl o)
-  first_opening (suc n) t o is opens = by (is_opening may own pitch blocking (t + 1)) refl
+  first_opening (suc n) t o is opens = by (is_opening may own blocking (t + 1)) refl
       (first_opening n (t + 1) o (omega (arith, is)) opens)
     where
-      by : (b : Bool) → is_opening may own pitch blocking (t + 1) ≡ b → (u : ℕ) × IsFirstOpening (t + 1) u × (u ≤ o)
+      by : (b : Bool) → is_opening may own blocking (t + 1) ≡ b → (u : ℕ) × IsFirstOpening (t + 1) u × (u ≤ o)
           → (u : ℕ) × IsFirstOpening t u × (u ≤ o)
       by true here rest = (t + 1, (omega arith, here, λ v after before. absurd (omega (arith, after, before))), omega (arith, is))
       by false none rest =
@@ -91,7 +91,7 @@ module _ (may : ℕ → ℕ → Bool) (own pitch : ℕ) (blocking : ℕ → ℕ)
               first.1,
               λ v behind before. elim (cases_lt (t + 1) v) [
                 | inl later ↦ first.2 v later before
-                | inr here ↦ (let same : t + 1 ≡ v = omega (arith, here, behind) in ap (is_opening may own pitch blocking) (sym same)
+                | inr here ↦ (let same : t + 1 ≡ v = omega (arith, here, behind) in ap (is_opening may own blocking) (sym same)
                     ∙ none)
               ],
             ),
@@ -99,7 +99,7 @@ module _ (may : ℕ → ℕ → Bool) (own pitch : ℕ) (blocking : ℕ → ℕ)
           )
 
   -- the window behind a moment is no later than one that opens later
-  window_by : (t o s : ℕ) → t < o → is_opening may own pitch blocking o ≡ true → o + blocking o ≤ s
+  window_by : (t o s : ℕ) → t < o → is_opening may own blocking o ≡ true → o + blocking o ≤ s
       → (x : ℕ) × IsNextWindow may own pitch blocking t x × (x ≤ s)
   window_by t o s after opens by =
       let w = first_opening (o - t - 1) t o (omega (arith, after)) opens in

@@ -1,5 +1,6 @@
 -- Frames of periodic flows in a class that shares its windows with lower classes start no later than in the late run.
-use Rattle.std.proofs.Common.{◌≡◌, ◌<◌, ◌≤◌, ℕ, zero, suc, ◌+◌, ◌-◌, max, Bool, ◌⊎◌, inl, inr, List, [], ◌∷◌, length, slice_get, Option, Some, None, refl, sym, ap, ◌∙◌, subst, arith, le_refl}
+use Rattle.std.proofs.Common.{◌≡◌, ◌<◌, ◌≤◌, ℕ, zero, suc, ◌+◌, ◌-◌, ◌*◌, max, Bool, ◌⊎◌, inl, inr, List, [], ◌∷◌, length, slice_get, Option, Some, None, refl, sym, ap, ◌∙◌, subst, arith, le_refl}
+use Rattle.std.proofs.Math.Nat.{mul-le-mul_right}
 use Rattle.std.proofs.lemmas.Bool.{cases_lt}
 use Rattle.std.proofs.lemmas.Option.{same_Some, slice_get_within}
 use Rattle.wire_time.proofs.WireLaws.{occupancy_pos}
@@ -13,13 +14,13 @@ use Rattle.any_traffic.specs.ArrivalCurve.{ConformTo}
 use Rattle.any_traffic.specs.ArrivalWindows.{StartsWithin}
 use Rattle.any_traffic.specs.BlockedWindows.{AreBlocked, BlockedWindowLaw, IsBlockedLate, IsBlockedStart, IsGradual, IsLastBefore}
 use Rattle.any_traffic.specs.PeriodicWindows.{PeriodicFlow, can_by, must_before, window_of}
-use Rattle.any_traffic.specs.SharedSlots.{IsSharedSlot}
+use Rattle.any_traffic.specs.SharedSlots.{IsSharedSlot, slots_of}
 use Rattle.any_traffic.proofs.BlockedSlots.{IsGate, IsReached, first_reached, first_sooner, next_reached, next_sooner, plan_gate, shared_before}
 use Rattle.any_traffic.proofs.ListLaws.{none_here, one_before}
 use Rattle.any_traffic.proofs.Offered.{queued_order}
 use Rattle.any_traffic.proofs.PeriodicWindowLaws.{HavePeriod, as_many, must_more, the_frame}
 use Rattle.any_traffic.proofs.RunParts.{sound_of}
-use Rattle.any_traffic.proofs.SharedSlots.{AreSound, count_of}
+use Rattle.any_traffic.proofs.SharedSlots.{AreSound, count_of, slots_one}
 use Rattle.any_traffic.proofs.SharedWaits.{IsUp, at_now, at_start, begun_from, main, waits_from}
 use Rattle.any_traffic.proofs.StartLaws.{since_at}
 use Rattle.any_traffic.proofs.Sharing.{SharedHolds, shared_run}
@@ -136,7 +137,7 @@ module _ (may : ℕ → ℕ → Bool) (own pitch : ℕ) (blocking : ℕ → ℕ)
 -- ---- the frames of a run
 
 pub blocked_window_law : BlockedWindowLaw
-blocked_window_law ps mtu room c pitch need blocking a plan events flows numbers sharing gradual r short these come k i n s f flow e number
+blocked_window_law ps mtu room c pitch need blocking a plan events flows numbers sharing wide gradual r short these come k i n s f flow e number
     place late =
     by held.phase
   where
@@ -186,12 +187,22 @@ blocked_window_law ps mtu room c pitch need blocking a plan events flows numbers
         let more = occupancy_pos ps (f.frame).len pos in
         omega (arith, one, more)
 
+    some_pitch : 0 < pitch
+    some_pitch = (let need = some in omega (arith, need, wide))
+
+    -- each frame covers one slot
+    one_each : (n : ℕ) → slots_of (need c) pitch * n + 0 ≤ n
+    one_each n =
+        let all = mul-le-mul_right n (slots_one (need c) pitch some_pitch wide) in
+        let one : 1 * n ≡ n = grind arith in
+        omega (arith, all, one)
+
     in_force : (port_after events p).history ≡ a ∷ [] → StartsWithin ps mtu room c events a.change k s
     in_force full = (
       λ x y. by_late k 0 x.at f (let z : k + 0 ≡ k = omega arith in z) e
           (begun_from (a ∷ []) ps c (need c) all came keep.short now held.wire (queue_of (port_after events p) c) held.served k f x e y)
           ((at_start ps a pos all now c plan (r.one).is (r.one).above need blocking pitch (λ x. length came)
-          (λ j y. 0) [] sharing.blocked sharing.apart sharing.among sound few came held.wire
+          (λ j y. 0) [] sharing.blocked some_pitch sharing.among sound few came held.wire
           (queue_of (port_after events p) c) held.served held.since order keep k x y).later),
       λ past. elim (cases_lt k (length mine)) [
         | inl less ↦ less
@@ -203,7 +214,7 @@ blocked_window_law ps mtu room c pitch need blocking a plan events flows numbers
             (waits_from (a ∷ []) ps c (need c) all came keep.short now held.wire (queue_of (port_after events p) c) held.served m g.0 g.1
             (le_refl m))
             ((at_now ps a pos all now c plan (r.one).is (r.one).above need blocking pitch (λ x. length came)
-            (λ j y. 0) [] sharing.blocked sharing.apart sharing.among sound few came held.wire
+            (λ j y. 0) [] sharing.blocked some_pitch sharing.among sound few came held.wire
             (queue_of (port_after events p) c) held.served held.since order keep m (le_refl m)).later) in
             absurd (omega (arith, not_yet, past))
       ],
@@ -217,7 +228,7 @@ blocked_window_law ps mtu room c pitch need blocking a plan events flows numbers
 
         by_late : (j m moment : ℕ) (g : Came) → j + m ≡ k → slice_get came j ≡ Some g
             → (b : IsUp ps a pos all now c plan (r.one).is (r.one).above need blocking pitch (λ x. length came)
-            (λ j y. 0) [] sharing.blocked sharing.apart sharing.among sound few came held.wire
+            (λ j y. 0) [] sharing.blocked some_pitch sharing.among sound few came held.wire
             (queue_of (port_after events p) c) held.served held.since order keep j moment)
             → ((l : ℕ) (z : Start) → slice_get mine l ≡ Some z → j ≤ l → moment ≤ z.at) → moment ≤ a.change + s
         by_late j m moment g is at b later =
@@ -237,10 +248,10 @@ blocked_window_law ps mtu room c pitch need blocking a plan events flows numbers
             let near = shared_before (may_by plan c) (need c) pitch blocking (plan_gate plan c) gradual q (j - b.place) m far.0
             (subst (λ x. IsSharedSlot (may_by plan c) (need c) pitch blocking q x far.0) count far.1) in
             let early = main ps a pos all now c plan (r.one).is (r.one).above need blocking pitch (λ x. length came)
-            (λ j y. 0) [] sharing.blocked sharing.apart
+            (λ j y. 0) [] sharing.blocked some_pitch
             sharing.among sound few came held.wire
             (queue_of (port_after events p) c) held.served held.since order keep j moment g at b later
-            (j - b.place) near.0 near.1 (omega arith) in
+            (j - b.place) near.0 near.1 (one_each (j - b.place)) in
             let first = near.2 in
             let second = far.2 in
             omega (arith, early, first, second)

@@ -1,5 +1,6 @@
 -- What bounds a class that shares its windows, by the chain of its starts.
-use Rattle.std.proofs.Common.{◌≡◌, ◌<◌, ◌≤◌, ℕ, zero, suc, ◌+◌, ◌-◌, max, true, ◌⊎◌, inl, inr, List, [], ◌∷◌, length, slice_get, sum_by, Some, refl, sym, ap, ◌∙◌, subst, arith, le_refl}
+use Rattle.std.proofs.Common.{◌≡◌, ◌<◌, ◌≤◌, ℕ, zero, suc, ◌+◌, ◌-◌, ◌*◌, max, true, ◌⊎◌, inl, inr, List, [], ◌∷◌, length, slice_get, sum_by, Some, refl, sym, ap, ◌∙◌, subst, arith, le_refl}
+use Rattle.std.proofs.Math.Nat.{mul-le-mul_left}
 use Rattle.std.proofs.lemmas.Bool.{cases_lt}
 use Rattle.std.proofs.lemmas.List.Sums.{sum_by-cons}
 use Rattle.std.proofs.lemmas.Option.{same_Some, slice_get_within}
@@ -13,11 +14,11 @@ use Rattle.abstract_port.specs.declared.Start.{Start}
 use Rattle.separation.specs.Traffic.{Came, starts_of_class}
 use Rattle.delay_bounds.specs.Walk.{may_by}
 use Rattle.any_traffic.specs.ArrivalCurve.{ConformTo}
-use Rattle.any_traffic.specs.SharedBounds.{AreFew, IsSharedBusyPeriod, IsSoon, most_above}
+use Rattle.any_traffic.specs.SharedBounds.{AreFew, IsSharedBusyPeriod, IsSoon, slots_above}
 use Rattle.any_traffic.specs.SharedRuns.{AtMostWait}
-use Rattle.any_traffic.specs.SharedSlots.{AreAbove, IsBlocking, IsPitch, IsSharedSlot}
+use Rattle.any_traffic.specs.SharedSlots.{AreAbove, IsBlocking, IsSharedSlot, slots_of}
 use Rattle.any_traffic.proofs.ListLaws.{none_here, one_at, one_before}
-use Rattle.any_traffic.proofs.SharedSlots.{AreSound, at_slot, count_all, count_of}
+use Rattle.any_traffic.proofs.SharedSlots.{AreSound, at_load, at_slot, count_of, load_all}
 use Rattle.any_traffic.proofs.StartLaws.{class_rises, shared_come, start_before, start_frame, class_at, class_of, class_one, count_own, since_at, span}
 use Rattle.any_traffic.proofs.Sharing.{AreShared, AreSince, IsSharedStart, IsTaken}
 
@@ -236,7 +237,7 @@ pub record AreInTime (all : List Start) (now c : ℕ) (came : List Came) (wait w
 
 module _ (ps : ℕ) (a : Accepted) (some_time : 0 < ps) (all : List Start) (now : ℕ) (c : ℕ) (plan : Plan) (is : a.plan ≡ Some plan)
     (above : 0 < plan.cycle) (need blocking : ℕ → ℕ) (pitch : ℕ) (curve : ℕ → ℕ) (curves : ℕ → ℕ → ℕ) (higher : List ℕ)
-    (blocked : IsBlocking plan c need blocking) (pitched : IsPitch c higher need pitch) (those : AreAbove plan c higher)
+    (blocked : IsBlocking plan c need blocking) (pitched : 0 < pitch) (those : AreAbove plan c higher)
     (sound : AreSound (a ∷ []) need all)
     (above_few : (i j : ℕ) → slice_get higher i ≡ Some j → (p s : ℕ) → count_of j p (s + 1) all ≤ curves j (s - p))
     (came : List Came) (wire : ℕ) (waiting_now : List Frame)
@@ -261,19 +262,23 @@ module _ (ps : ℕ) (a : Accepted) (some_time : 0 < ps) (all : List Start) (now 
   pub main : (i m : ℕ) (f : Came) → slice_get came i ≡ Some f → (b : IsUp i m)
       → ((j : ℕ) (z : Start) → slice_get begun j ≡ Some z → i ≤ j → m ≤ z.at)
       → (n s : ℕ) → IsSharedSlot (may_by plan c) (need c) pitch blocking ((b.frame).moment - a.change) n s
-      → i - b.place + 1 + most_above curves higher (s - ((b.frame).moment - a.change)) ≤ n + 1 → m ≤ a.change + s
+      → slots_of (need c) pitch * (i - b.place) + slots_above need pitch curves higher (s - ((b.frame).moment - a.change)) ≤ n
+      → m ≤ a.change + s
   main i m f e b later n s slot enough = elim (cases_lt (a.change + s) m) [
     | inr le ↦ le
     | inl less ↦
         let x = at_slot a plan is above c higher need blocking pitch all sound blocked pitched those pos p m busy clear n s slot
         less in
-        let count = subst (λ t. suc n ≤ count_all c higher t (a.change + s + 1) all) at x.count in
-        let own = own_few less in
-        let others = sum_le (λ j. count_of j (b.frame).moment (a.change + s + 1) all) (λ j. curves j (s - p)) higher
+        let count = subst (λ t. suc n ≤ load_all (λ j. slots_of (need j) pitch) c higher t (a.change + s + 1) all) at
+        (at_load a plan is above c higher need blocking pitch all sound blocked pitched those pos p m busy clear n s x) in
+        let own = mul-le-mul_left (slots_of (need c) pitch) (own_few less) in
+        let others = sum_le (λ j. slots_of (need j) pitch * count_of j (b.frame).moment (a.change + s + 1) all)
+        (λ j. slots_of (need j) pitch * curves j (s - p)) higher
         (λ i j e.
         let one = above_few i j e (b.frame).moment (a.change + s) in
         let same : a.change + s - (b.frame).moment ≡ s - p = omega (arith, at) in
-        subst (λ t. count_of j (b.frame).moment (a.change + s + 1) all ≤ curves j t) same one) in
+        mul-le-mul_left (slots_of (need j) pitch)
+        (subst (λ t. count_of j (b.frame).moment (a.change + s + 1) all ≤ curves j t) same one)) in
         absurd (omega (arith, count, own, others, enough))
   ]
     where
@@ -383,7 +388,9 @@ module _ (ps : ℕ) (a : Accepted) (some_time : 0 < ps) (all : List Start) (now 
         let w = soon p (f.moment - g.moment) (holds i m i f f b at e (le_refl i) e (inl refl)) in
         let room = (w.1).enough in
         let early = w.2 in
-        let by = main i m f e b at.later (w.1).behind w.0 (w.1).is (omega (arith, room, count)) in
+        let own = mul-le-mul_left (slots_of (need c) pitch)
+        (let l : i - b.place ≤ curve (f.moment - g.moment) - 1 = omega (arith, count) in l) in
+        let by = main i m f e b at.later (w.1).behind w.0 (w.1).is (omega (arith, room, own)) in
         omega (arith, by, early, from, order)
 
     few_wait : (i n m : ℕ) (f g : Came) → slice_get came i ≡ Some f → slice_get came (i + n) ≡ Some g → IsUp i m → IsMoment i m
@@ -407,7 +414,8 @@ module _ (ps : ℕ) (a : Accepted) (some_time : 0 < ps) (all : List Start) (now 
               elim (cases_lt (i - b.place) w.0) [
                 | inr more ↦ omega (arith, count, all, more)
                 | inl less ↦
-                    let by = main i m f e b at.later (x.1).behind x.0 (x.1).is (omega (arith, room, less)) in
+                    let own = mul-le-mul_left (slots_of (need c) pitch) (let l : i - b.place ≤ w.0 - 1 = omega (arith, less) in l) in
+                    let by = main i m f e b at.later (x.1).behind x.0 (x.1).is (omega (arith, room, own)) in
                     absurd (omega (arith, by, before, come, from, order))
               ]
         ]
@@ -521,11 +529,15 @@ module _ (ps : ℕ) (a : Accepted) (some_time : 0 < ps) (all : List Start) (now 
             let some = occupancy_pos ps ((r.frame).frame).len some_time in
             let over = r.over in
             let next = r.before in
-            let enough : r.at - b.place + 1 + most_above curves higher (q.slot - p) ≤ (q.is).behind + 1 = omega
-            (arith, space, up, count) in
+            let own = mul-le-mul_left (slots_of (need c) pitch)
+            (let l : r.at - b.place ≤ curve last - 1 = omega (arith, up, count) in l) in
+            let enough : slots_of (need c) pitch * (r.at - b.place) + slots_above need pitch curves higher (q.slot - p) ≤ (q.is).behind =
+            omega (arith, space, own) in
             elim (cases_lt r.at i) [
               | inr behind ↦
-                  let late = main i m f e b at.later (q.is).behind q.slot (q.is).is (omega (arith, enough, behind)) in
+                  let sooner = mul-le-mul_left (slots_of (need c) pitch)
+                  (let l : i - b.place ≤ r.at - b.place = omega (arith, behind) in l) in
+                  let late = main i m f e b at.later (q.is).behind q.slot (q.is).is (omega (arith, enough, sooner)) in
                   let more : suc r.at ≤ j = next in
                   let to : j ≡ suc r.at + (j - suc r.at) = omega (arith, more) in
                   let order = order (suc r.at) (j - suc r.at) r.next g r.two

@@ -65,7 +65,7 @@ abbrev pub BlockedWindowLaw : Type 0
 BlockedWindowLaw =
     (ps mtu room class pitch : ℕ) (need blocking : ℕ → ℕ) (a : Accepted) (plan : Plan) (events : List Event) (flows : List PeriodicFlow)
     (numbers : List (ℕ × ℕ))
-    → IsSharing plan class [] need blocking pitch → IsGradual blocking → IsScheduledRun ps mtu room class events a plan
+    → IsSharing plan class [] need blocking → need class ≤ pitch → IsGradual blocking → IsScheduledRun ps mtu room class events a plan
     → ((k : ℕ) (x : Start) → slice_get (starts_in (answers_of events (new_port ps mtu room))) k ≡ Some x → x.«end» ≤ x.at + need x.class)
     → ArePeriodic (need class) flows → ComeByFlows ps a.change flows numbers (queued ps mtu room class events)
     → (k i n s : ℕ) (f : Came) (flow : PeriodicFlow)
@@ -87,7 +87,7 @@ abbrev pub BlockedBoundsLaw : Type 0
 BlockedBoundsLaw =
     (ps mtu room class pitch : ℕ) (need blocking : ℕ → ℕ) (a : Accepted) (plan : Plan) (events : List Event) (flows : List PeriodicFlow)
     (numbers : List (ℕ × ℕ)) (waits : List ℕ) (from every : ℕ)
-    → IsSharing plan class [] need blocking pitch → IsGradual blocking → IsScheduledRun ps mtu room class events a plan
+    → IsSharing plan class [] need blocking → need class ≤ pitch → IsGradual blocking → IsScheduledRun ps mtu room class events a plan
     → ((k : ℕ) (x : Start) → slice_get (starts_in (answers_of events (new_port ps mtu room))) k ≡ Some x → x.«end» ≤ x.at + need x.class)
     → ArePeriodic (need class) flows → ComeByFlows ps a.change flows numbers (queued ps mtu room class events)
     → BlockedRecurs (may_by plan class) (need class) pitch blocking flows from every

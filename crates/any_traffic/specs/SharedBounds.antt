@@ -2,25 +2,25 @@
 --
 -- What is asked of a higher class is a start curve, and what a law says of a class gives it one (`StartCurveLaw`): so classes are judged
 -- from the highest down.
-use Rattle.std.specs.Prelude.{◌≡◌, ◌<◌, ◌≤◌, ◌⊎◌, ℕ, ◌+◌, ◌-◌, List, sum_by}
+use Rattle.std.specs.Prelude.{◌≡◌, ◌<◌, ◌≤◌, ◌⊎◌, ℕ, ◌+◌, ◌-◌, ◌*◌, List, sum_by}
 use Rattle.gate_list.specs.Gate.{Plan, in_ps}
 use Rattle.list_config.specs.History.{Accepted}
 use Rattle.abstract_port.specs.declared.Event.{Event}
 use Rattle.delay_bounds.specs.Walk.{may_by}
 use Rattle.any_traffic.specs.SharedRuns.{IsSharedInTime, IsSharedRun}
-use Rattle.any_traffic.specs.SharedSlots.{IsSharedSlot, IsSharing}
+use Rattle.any_traffic.specs.SharedSlots.{IsSharedSlot, IsSharing, slots_of}
 
--- how many frames of the higher classes may start from a moment to one that is y later
-abbrev pub most_above : (curves : ℕ → ℕ → ℕ) → List ℕ → ℕ → ℕ
-most_above curves higher y = sum_by (λ j. curves j y) higher
+-- how many slots the frames of the higher classes may cover that start from a moment to one that is y later
+abbrev pub slots_above : (need : ℕ → ℕ) (pitch : ℕ) (curves : ℕ → ℕ → ℕ) → List ℕ → ℕ → ℕ
+slots_above need pitch curves higher y = sum_by (λ j. slots_of (need j) pitch * curves j y) higher
 
 module _ (plan : Plan) (class : ℕ) (need blocking : ℕ → ℕ) (pitch : ℕ) (curve : ℕ → ℕ) (curves : ℕ → ℕ → ℕ) (higher : List ℕ) where
-  -- The slot at s, counted from t on, is one for k frames of the class: so many slots are up to it, with it, as these and all that may
-  -- start of the higher classes by then.
+  -- The slot at s, counted from t on, is one for k frames of the class: no fewer slots are before it than all of these but the last may
+  -- cover, and all that may start of the higher classes by then.
   pub record IsSlotFor (t k s : ℕ) : Type 0 where
     pub behind : ℕ
     pub is : IsSharedSlot (may_by plan class) (need class) pitch blocking t behind s
-    pub enough : k + most_above curves higher (s - t) ≤ behind + 1
+    pub enough : slots_of (need class) pitch * (k - 1) + slots_above need pitch curves higher (s - t) ≤ behind
 
   -- of the frames of the class that come from t on within x, the last starts at most `wait` after x has passed
   abbrev pub IsSoon : ℕ → ℕ → ℕ → Type 0
@@ -45,13 +45,13 @@ module _ (plan : Plan) (class : ℕ) (need blocking : ℕ → ℕ) (pitch : ℕ)
     pub soon : (x : ℕ) → x ≤ last → IsSoon wait t x
     pub few : (x : ℕ) → x ≤ last → AreFew waiting t x
 
--- The law of shared windows: in every such run the bounds hold that its plan alone has with the arrival curve of the class, the start
--- curves of the higher ones, and with how long a frame of each class needs the wire at most.
+-- The law of shared windows: in every such run the bounds hold that its plan alone has, by any pitch, with the arrival curve of the class,
+-- the start curves of the higher ones, and with how long a frame of each class needs the wire at most.
 abbrev pub SharedLaw : Type 0
 SharedLaw =
     (ps mtu room class pitch wait waiting : ℕ) (need blocking : ℕ → ℕ) (curve : ℕ → ℕ) (curves : ℕ → ℕ → ℕ) (higher : List ℕ)
     (a : Accepted) (plan : Plan) (events : List Event)
-    → IsSharing plan class higher need blocking pitch → IsSharedRun ps mtu room events class need curve curves higher a plan
+    → IsSharing plan class higher need blocking → 0 < pitch → IsSharedRun ps mtu room events class need curve curves higher a plan
     → AreSharedBounds plan class need blocking pitch curve curves higher wait waiting
     → IsSharedInTime ps mtu room events class wait waiting
 
@@ -61,7 +61,7 @@ abbrev pub SharedBusyLaw : Type 0
 SharedBusyLaw =
     (ps mtu room class pitch wait waiting : ℕ) (need blocking : ℕ → ℕ) (curve : ℕ → ℕ) (curves : ℕ → ℕ → ℕ) (higher : List ℕ)
     (a : Accepted) (plan : Plan) (events : List Event)
-    → IsSharing plan class higher need blocking pitch → IsSharedRun ps mtu room events class need curve curves higher a plan
+    → IsSharing plan class higher need blocking → 0 < pitch → IsSharedRun ps mtu room events class need curve curves higher a plan
     → ((x y : ℕ) → x ≤ y → curve x ≤ curve y)
     → ((t : ℕ) → IsSharedBusyPeriod plan class need blocking pitch curve curves higher wait waiting t)
     → IsSharedInTime ps mtu room events class wait waiting

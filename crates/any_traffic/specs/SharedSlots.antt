@@ -2,9 +2,9 @@
 --
 -- The class with the highest priority is served first, and no frame is broken off (IEEE Std 802.1Q-2018, 8.6.8.1, 8.6.8.4). So a frame of a
 -- class may wait for one of another class that has the wire, and for all that come meanwhile in the higher classes. While it waits, a frame
--- of its class or of a higher one starts by each slot: the first behind what another class may still have of the wire, the others so far
--- apart as such frames are long.
-use Rattle.std.specs.Prelude.{◌≡◌, ◌<◌, ◌≤◌, ◌⊎◌, ℕ, zero, suc, ◌+◌, ◌-◌, Bool, true, false, not, ◌&&◌, List, Some, slice_get}
+-- of its class or of a higher one has the wire at each slot, which began meanwhile: the first slot is behind what another class may still
+-- have of the wire, and the others are a pitch apart. The pitch may be any: a frame has the wire at as many slots as its length covers.
+use Rattle.std.specs.Prelude.{◌≡◌, ◌<◌, ◌≤◌, ◌⊎◌, ℕ, zero, suc, ◌+◌, ◌-◌, ◌/◌, Bool, true, false, not, ◌&&◌, List, Some, slice_get}
 use Rattle.gate_list.specs.Gate.{Plan}
 use Rattle.delay_bounds.specs.Walk.{may_by}
 
@@ -19,28 +19,26 @@ pub record IsBlocking (plan : Plan) (class : ℕ) (need blocking : ℕ → ℕ) 
   pub at : (j u r : ℕ) → (j ≡ class → ⊥) → r < need j → may_by plan j u r ≡ true
       → (u ≡ 0) ⊎ (may_by plan j (u - 1) 1 ≡ true) → r ≤ blocking u
 
--- the pitch: the class and those above it need the wire for this at most
-pub record IsPitch (class : ℕ) (higher : List ℕ) (need : ℕ → ℕ) (pitch : ℕ) : Type 0 where
-  pub own : need class ≤ pitch
-  pub above : (i j : ℕ) → slice_get higher i ≡ Some j → need j ≤ pitch
-
 -- what is asked of these by the plan and by how long frames are
-pub record IsSharing (plan : Plan) (class : ℕ) (higher : List ℕ) (need blocking : ℕ → ℕ) (pitch : ℕ) : Type 0 where
+pub record IsSharing (plan : Plan) (class : ℕ) (higher : List ℕ) (need blocking : ℕ → ℕ) : Type 0 where
   pub among : AreAbove plan class higher
   pub blocked : IsBlocking plan class need blocking
-  pub apart : IsPitch class higher need pitch
+
+-- how many slots that are a pitch apart a frame covers at most that needs the wire for so long: as many as pitches, rounded up
+unfoldable pub slots_of : (need pitch : ℕ) → ℕ
+slots_of need pitch = (need + (pitch - 1)) / pitch
+
+-- the gate opens at u, for so long that a frame of the class may start when what has the wire has ended
+abbrev pub is_opening : (may : ℕ → ℕ → Bool) (own : ℕ) (blocking : ℕ → ℕ) (u : ℕ) → Bool
+is_opening may own blocking u = not (may (u - 1) 1) && may u (blocking u + own)
 
 module _ (may : ℕ → ℕ → Bool) (own pitch : ℕ) (blocking : ℕ → ℕ) where
-  -- the gate opens at u, for so long that a frame of the class may start when what has the wire has ended
-  abbrev pub is_opening : ℕ → Bool
-  is_opening u = not (may (u - 1) 1) && may u (blocking u + own)
-
   -- the first slot of the windows that open after t
   pub record IsNextWindow (t s : ℕ) : Type 0 where
     pub opening : ℕ
     pub after : t < opening
-    pub opens : is_opening opening ≡ true
-    pub least : (u : ℕ) → t < u → u < opening → is_opening u ≡ false
+    pub opens : is_opening may own blocking opening ≡ true
+    pub least : (u : ℕ) → t < u → u < opening → is_opening may own blocking u ≡ false
     pub begins : s ≡ opening + blocking opening
 
   -- the first slot from t on: in the window at t, if there is time, else in a later one
