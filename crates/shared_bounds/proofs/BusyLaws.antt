@@ -1,19 +1,21 @@
 -- The busy period, frame by frame.
-use Rattle.std.proofs.Common.{◌≡◌, ◌<◌, ◌≤◌, ℕ, ◌+◌, ◌-◌, ◌^◌, List, [], ◌∷◌, ◌++◌, length, get_or, inl, inr, refl, sym, subst, arith, le_refl}
+use Rattle.std.proofs.Common.{◌≡◌, ◌<◌, ◌≤◌, ℕ, ◌+◌, ◌-◌, ◌*◌, ◌^◌, List, [], ◌∷◌, ◌++◌, length, get_or, inl, inr, refl, sym, subst, arith, le_refl}
+use Rattle.std.proofs.Math.Nat.{mul-le-mul_right}
 use Rattle.std.proofs.lemmas.Bool.{cases_lt}
 use Rattle.std.proofs.lemmas.List.{length-append}
 use Rattle.std.proofs.Math.ListN.{get_or-append}
 use Rattle.std.proofs.Math.Seq.{get_or-append_seam}
+use Rattle.any_traffic.proofs.SharedSlots.{slots_within}
 use Rattle.burst_bounds.specs.Walk.{AreBelow, IsArrival}
 use Rattle.burst_bounds.proofs.SlotLaws.{one_more}
 use Rattle.shared_bounds.specs.Busy.{AreEarly, IsBusyFor, IsBusyTime, IsLong, IsRead, IsUnseen}
-use Rattle.shared_bounds.specs.Place.{IsSlotOf, own_of}
+use Rattle.shared_bounds.specs.Place.{IsPlace, IsSlotOf, own_of, own_slots}
 use Rattle.shared_bounds.specs.Slots.{IsEnough, IsFirstFor, IsNoNext, IsNoneFor, IsSought}
 use Rattle.shared_bounds.specs.declared.Unbound.{Unbound}
 use Rattle.shared_bounds.specs.declared.Unbound.TheVariants.{Blocked, Long, Memory, Stuck}
 use Rattle.shared_bounds.specs.declared.place.SharedClass.{SharedClass}
 use Rattle.shared_bounds.specs.declared.slots.Slot.{Slot}
-use Rattle.shared_bounds.proofs.ForLaws.{first_least, none_more}
+use Rattle.shared_bounds.proofs.ForLaws.{fewer, first_least, none_more}
 
 -- The latest starts of frames, behind none of which the wire is idle.
 pub record AreBusy (c : SharedClass) (t : ℕ) (starts moments : List ℕ) : Type 0 where
@@ -96,7 +98,7 @@ module _ (c : SharedClass) (t : ℕ) (moments : List ℕ) where
       (beyond : (n s : ℕ) → n < count → IsSlotOf c t n s → IsEnough c t (i + 1) n s → ⊥) where
     pub busy_for : (curve : ℕ → ℕ) → IsRead curve moments → IsBusyFor c curve t count
     busy_for curve read last n s less slot enough = elim (cases_lt i (curve last)) [
-      | inl many ↦ absurd (beyond n s less slot (omega (arith, enough, many)))
+      | inl many ↦ absurd (beyond n s less slot (fewer c t (i + 1) (curve last) n s (omega (arith, many)) enough))
       | inr few ↦
           let k : ℕ = curve last - 1 in
           let one = read.some last in
@@ -118,12 +120,14 @@ module _ (c : SharedClass) (t : ℕ) (moments : List ℕ) where
   by_none starts i count Memory h size listed told curve read = tt
   by_none starts i count Stuck h size listed told curve read = told
 
-  pub by_last : (starts : List ℕ) (i count : ℕ) → AreBusy c t starts moments → length starts ≡ i → i < length moments → count ≤ i
+  pub by_last : IsPlace c → (starts : List ℕ) (i count : ℕ) → AreBusy c t starts moments → length starts ≡ i → i < length moments → count ≤ i
       → (curve : ℕ → ℕ) → IsRead curve moments → IsLong c curve count
-  by_last starts i count h size listed all curve read = (
+  by_last place starts i count h size listed all curve read = (
     t,
-    inl (busy_for starts h i count size listed (λ n s less slot enough. (let wrong : ⊥ = omega (arith, less, all, enough) in wrong)) curve
-        read),
+    inl (busy_for starts h i count size listed (λ n s less slot enough.
+        let one : 0 < own_slots c = slots_within (own_of c) c.pitch 0 place.stepped (let some = place.some in omega (arith, some)) in
+        let each : 1 * (i + 1 - 1) ≤ own_slots c * (i + 1 - 1) = mul-le-mul_right (i + 1 - 1) one in
+        let wrong : ⊥ = omega (arith, less, all, enough, each) in wrong) curve read),
   )
 
   pub by_first : (count : ℕ) (why : Unbound) → t ≤ 2 ^ 60 → IsNoNext c t why → (curve : ℕ → ℕ) → IsUnseen c curve count why

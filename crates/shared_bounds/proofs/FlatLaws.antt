@@ -23,11 +23,11 @@ module _ (mask : ℕ → ℕ) (class : ℕ) where
         (open_at mask class at 1 here at (le_refl at) (omega arith))
   ])
 
-  module _ (own pitch : ℕ) (blocking : ℕ → ℕ) (some : 0 < own) where
+  module _ (own : ℕ) (blocking : ℕ → ℕ) (some : 0 < own) where
     -- no gate opens
     pub none_opens : (at end : ℕ) → ((m : ℕ) → at ≤ m → m < end → mask m ≡ mask at) → (u : ℕ) → at < u → u < end
-        → is_opening may own pitch blocking u ≡ false
-    none_opens at end same u after before = elim (cases_Bool (is_opening may own pitch blocking u)) [
+        → is_opening may own blocking u ≡ false
+    none_opens at end same u after before = elim (cases_Bool (is_opening may own blocking u)) [
       | inr not_so ↦ not_so
       | inl holds ↦
           let parts = and_parts _ _ holds in

@@ -5,6 +5,7 @@ pub mod TrafficLaws
 pub mod OpeningLaws
 pub mod SlotLaws
 pub mod ForLaws
+pub mod StepLaws
 pub mod NearLaws
 pub mod NextLaws
 pub mod BusyLaws

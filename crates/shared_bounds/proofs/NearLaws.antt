@@ -138,7 +138,7 @@ module _ (mask : ℕ → ℕ) (class own pitch : ℕ) (blocking : ℕ → ℕ) (
 
   -- ---- where the class may not start behind a blocking frame, up to the next opening
 
-  module _ (t o : ℕ) (shut : may t (blocking t + own) ≡ false) (next : IsNextOpening (is_opening may own pitch blocking) t o) where
+  module _ (t o : ℕ) (shut : may t (blocking t + own) ≡ false) (next : IsNextOpening (is_opening may own blocking) t o) where
     shut_to : (k : ℕ) → t + k < o → may (t + k) (blocking (t + k) + own) ≡ false
     shut_to zero less = (let same : t ≡ t + 0 = omega arith in subst (λ v. may v (blocking v + own) ≡ false) same shut)
     shut_to (suc k) less = elim (cases_Bool (may (t + suc k) (blocking (t + suc k) + own))) [

@@ -33,15 +33,15 @@ module _ (c : SharedClass) (place : IsPlace c) (t : ℕ) where
   pub first_may : may_of c t (blocking_of c t + own_of c) ≡ true → may_of c (t + blocking_of c t) (own_of c) ≡ true
   first_may takes = open_within mask c.class t (blocking_of c t + own_of c) (t + blocking_of c t) (own_of c) takes (omega arith) (omega arith)
 
-  -- one more in the same window
-  pub later_whole : (first at n : ℕ) → at ≡ first + n * c.pitch → at + c.pitch ≡ first + (n + 1) * c.pitch
-  later_whole first at n is = (let parts : (n + 1) * c.pitch ≡ n * c.pitch + c.pitch = grind arith in omega (arith, is, parts))
+  -- some more in the same window
+  pub later_whole : (first at n k : ℕ) → at ≡ first + n * c.pitch → at + k * c.pitch ≡ first + (n + k) * c.pitch
+  later_whole first at n k is = (let parts : (n + k) * c.pitch ≡ n * c.pitch + k * c.pitch = grind arith in omega (arith, is, parts))
 
-  pub later_stays : (first at : ℕ) → first ≤ at → may_of c first (at - first + own_of c) ≡ true → may_of c at (c.pitch + own_of c) ≡ true
-      → may_of c first (at + c.pitch - first + own_of c) ≡ true
-  later_stays first at le before then = open_from mask c.class first (at + c.pitch - first + own_of c) (λ n low high. elim (cases_lt n at) [
+  pub later_stays : (first at d : ℕ) → first ≤ at → may_of c first (at - first + own_of c) ≡ true → may_of c at (d + own_of c) ≡ true
+      → may_of c first (at + d - first + own_of c) ≡ true
+  later_stays first at d le before then = open_from mask c.class first (at + d - first + own_of c) (λ n low high. elim (cases_lt n at) [
     | inl early ↦ open_at mask c.class first (at - first + own_of c) before n low (omega (arith, early, le))
-    | inr late ↦ open_at mask c.class at (c.pitch + own_of c) then n late (omega (arith, high, le))
+    | inr late ↦ open_at mask c.class at (d + own_of c) then n late (omega (arith, high, le))
   ])
 
   -- the last one is open for as long as it needs, and longer

@@ -1,8 +1,10 @@
 -- What is known of the classes.
-use Rattle.std.proofs.Common.{◌≡◌, ◌<◌, ◌≤◌, ℕ, zero, suc, ◌+◌, ◌^◌, min, sum_by, List, [], ◌∷◌, length, drop, drop_of_length-le, get_or, All, Some, inl, inr, map, refl, ap, arith}
+use Rattle.std.proofs.Common.{◌≡◌, ◌<◌, ◌≤◌, ℕ, zero, suc, ◌+◌, ◌-◌, ◌*◌, ◌/◌, ◌^◌, min, sum_by, List, [], ◌∷◌, length, drop, drop_of_length-le, get_or, All, Some, inl, inr, map, refl, sym, ap, ◌∙◌, arith, le_refl}
+use Rattle.std.proofs.Math.Nat.{mul-le-mul_left}
 use Rattle.std.proofs.lemmas.List.Sums.{sum_by-cons}
 use Rattle.std.proofs.lemmas.Bool.{cases_lt}
 use Rattle.std.proofs.lemmas.Option.{slice_get-get_or}
+use Rattle.any_traffic.specs.SharedSlots.{slots_of}
 use Rattle.any_traffic.specs.Sporadic.{curve_of}
 use Rattle.burst_bounds.specs.Talkers.{curve, sporadic_of}
 use Rattle.burst_bounds.specs.Walk.{talker_at}
@@ -59,6 +61,27 @@ starts_at [] j y d less = absurd (omega (arith, less))
 starts_at (t ∷ ts) zero y d less = refl
 starts_at (t ∷ ts) (suc j) y d less = starts_at ts j y d (omega (arith, less))
 
+-- where so many of each frame are counted, a limit on the frames changes nothing below it
+pub capped : (w n limit starts : ℕ) → min (starts + w * min n limit) limit ≡ min (starts + w * n) limit
+capped zero n limit starts = (let a : 0 * min n limit ≡ 0 = omega arith in let b : 0 * n ≡ 0 = omega arith in omega (arith, a, b))
+capped (suc w) n limit starts = elim (cases_lt limit n) [
+  | inr few ↦
+      let same : min n limit ≡ n = omega (arith, few) in
+      ap (λ k. min (starts + suc w * k) limit) same
+  | inl many ↦
+      let same : min n limit ≡ limit = omega (arith, many) in
+      let all : min (starts + suc w * limit) limit ≡ limit = full limit (le_refl limit) in
+      let more : min (starts + suc w * n) limit ≡ limit = full n (omega (arith, many)) in
+      ap (λ k. min (starts + suc w * k) limit) same ∙ (all ∙ sym more)
+]
+  where
+    full : (k : ℕ) → limit ≤ k → min (starts + suc w * k) limit ≡ limit
+    full k le = (let one : suc w * k ≡ k + w * k = grind arith in omega (arith, one, le))
+
+pub slots_is : (need pitch here : ℕ) → here ≡ need → (here + (pitch - 1)) / pitch ≡ slots_of need pitch
+unfolding slots_of
+slots_is need pitch here same = ap (λ k. (k + (pitch - 1)) / pitch) same
+
 pub above_more : (f : ℕ → ℕ) (js : List ℕ) (n j limit starts next all : ℕ) → n < length js → get_or js n 0 ≡ j
     → min (starts + sum_by f (drop n js)) limit ≡ all → next ≡ min (starts + min (f j) limit) limit
     → min (next + sum_by f (drop (n + 1) js)) limit ≡ all
@@ -102,7 +125,8 @@ sum_rises f x y each (j ∷ js) =
     omega (arith, here, rest, a, b)
 
 pub above_rises : (c : SharedClass) → IsPlace c → (x y : ℕ) → x ≤ y → above_of c x ≤ above_of c y
-above_rises c place x y le = sum_rises (start_curves c.traffic.now) x y (λ j. start_rises c.traffic.now place.traffic j x y le) c.higher.now
+above_rises c place x y le = sum_rises (λ j z. slots_of (needs c.traffic.now j) c.pitch * start_curves c.traffic.now j z) x y
+    (λ j. mul-le-mul_left (slots_of (needs c.traffic.now j) c.pitch) (start_rises c.traffic.now place.traffic j x y le)) c.higher.now
 
 -- ---- the frames of a class
 

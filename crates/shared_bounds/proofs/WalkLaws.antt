@@ -1,6 +1,7 @@
 -- The bounds, moment by moment.
-use Rattle.std.proofs.Common.{◌≡◌, ◌<◌, ◌≤◌, ℕ, ◌-◌, max, List, length, Result, Ok, Err, All, inl, inr, sym, subst, arith}
+use Rattle.std.proofs.Common.{◌≡◌, ◌<◌, ◌≤◌, ◌⊎◌, ℕ, ◌+◌, ◌-◌, max, min, List, ◌∷◌, get_or, length, Option, Some, None, Result, Ok, Err, All, inl, inr, sym, ap, ◌∙◌, subst, arith}
 use Rattle.std.proofs.lemmas.Bool.{cases_lt}
+use Rattle.std.proofs.lemmas.Option.{same_Some, slice_get-get_or, slice_get_within}
 use Rattle.gate_list.specs.Gate.{in_ps}
 use Rattle.burst_bounds.specs.Busy.{HasFrames}
 use Rattle.burst_bounds.specs.declared.Bounds.{Bounds}
@@ -12,14 +13,14 @@ use Rattle.burst_bounds.proofs.TalkerLaws.{curve_rises, curve_some}
 use Rattle.shared_bounds.specs.declared.Unbound.{Unbound}
 use Rattle.shared_bounds.specs.declared.Unbound.TheVariants.{Blocked, Long, Memory, Stuck}
 use Rattle.any_traffic.proofs.SharedCycleLaws.{shared_cycle_law}
-use Rattle.shared_bounds.specs.Busy.{AreFound, AreUnder, HoldFrom, IsNotFound, IsRead, IsSeen, IsUnseen}
-use Rattle.shared_bounds.specs.Least.{AreLeast, AreLeastOf, IsUnbound}
-use Rattle.shared_bounds.specs.Sharing.{AreHigher, pitch_of}
+use Rattle.shared_bounds.specs.Best.{AreBest, AreFoundAt, IsBest, IsNoWay, IsNotFound, IsTried, IsUnseenAt, lesser_of, pitch_at, with_told}
+use Rattle.shared_bounds.specs.Busy.{AreFound, AreUnder, HoldFrom, IsRead, IsSeen, IsUnseen}
+use Rattle.shared_bounds.specs.Least.{AreLeastOf, AreNoMoreBy, HoldBy, IsLongBy, IsUnbound}
+use Rattle.shared_bounds.specs.Sharing.{AreHigher, IsPitch}
 use Rattle.shared_bounds.specs.Slots.{IsStuck}
-use Rattle.shared_bounds.specs.Unbound.{IsBlockedIn, IsLongIn}
 use Rattle.shared_bounds.specs.Near.{AreNear, IsNear}
 use Rattle.shared_bounds.specs.Place.{IsPlace, blocking_of}
-use Rattle.shared_bounds.specs.Traffic.{arrivals_of, needs, start_curves}
+use Rattle.shared_bounds.specs.Traffic.{needs, start_curves}
 use Rattle.shared_bounds.specs.declared.place.SharedClass.{SharedClass}
 use Rattle.shared_bounds.proofs.BlockingLaws.{repeats}
 use Rattle.shared_bounds.proofs.PeriodLaws.{here_always, here_busy, hold, most_under, wait_under}
@@ -121,49 +122,188 @@ read_of talkers moments items some all is come = record {
   come = subst (AreArrivals (curve talkers)) (sym is) come;
 }
 
+-- ---- by several pitches
+
+module _ (c : SharedClass) (count : ℕ) where
+  -- a pitch at one place more is at one of those before it, or at that one
+  tried_next : (n pitch : ℕ) → IsTried c (n + 1) pitch → IsTried c n pitch ⊎ (pitch_at c n ≡ pitch)
+  tried_next n pitch t =
+      let less = t.1 in
+      elim (cases_lt t.0 n) [
+        | inl before ↦ inl (t.0, before, t.2)
+        | inr last ↦ (let same : t.0 ≡ n = omega (arith, last, less) in inr (sym (ap (pitch_at c) same) ∙ t.2))
+      ]
+
+  pub best_none : IsBest c count 0 None
+  best_none = λ pitch some t. (let less = t.1 in absurd (omega (arith, less)))
+
+  -- one that is tried, or is none, says nothing new
+  pub best_same : (n : ℕ) (best : Option Bounds) → (pitch_at c n ≡ 0) ⊎ IsTried c n (pitch_at c n) → IsBest c count n best
+      → IsBest c count (n + 1) best
+  best_same n None known h = λ pitch some t. h pitch some (old n pitch some known (tried_next n pitch t))
+    where
+      old : (n pitch : ℕ) → 0 < pitch → (pitch_at c n ≡ 0) ⊎ IsTried c n (pitch_at c n) → IsTried c n pitch ⊎ (pitch_at c n ≡ pitch)
+          → IsTried c n pitch
+      old n pitch some known (inl before) = before
+      old n pitch some (inl none) (inr here) = absurd (omega (arith, some, none, here))
+      old n pitch some (inr same) (inr here) = subst (IsTried c n) here same
+  best_same n (Some b) known h = record {
+    wait_is = h.wait_is;
+    most_is = h.most_is;
+    least = λ pitch some t. h.least pitch some (old n pitch some known (tried_next n pitch t));
+  }
+    where
+      old : (n pitch : ℕ) → 0 < pitch → (pitch_at c n ≡ 0) ⊎ IsTried c n (pitch_at c n) → IsTried c n pitch ⊎ (pitch_at c n ≡ pitch)
+          → IsTried c n pitch
+      old n pitch some known (inl before) = before
+      old n pitch some (inl none) (inr here) = absurd (omega (arith, some, none, here))
+      old n pitch some (inr same) (inr here) = subst (IsTried c n) here same
+
+  abbrev IsLongAt : ℕ → Type 0
+  IsLongAt pitch = IsLongBy c.schedule.now c.class c.traffic.now c.higher.now pitch count
+
+  -- bounds that are no less have none less by a pitch
+  no_more : (pitch w m wait most : ℕ) → wait ≤ w → most ≤ m → AreNoMoreBy c.schedule.now c.class c.traffic.now c.higher.now pitch w m
+      → AreNoMoreBy c.schedule.now c.class c.traffic.now c.higher.now pitch wait most
+  no_more pitch w m wait most le few h = record {
+    busy = λ x y are. (let a = h.busy x y are in let one = a.0 in let two = a.1 in (omega (arith, one, le), omega (arith, two, few)));
+    always = λ x y are. (let a = h.always x y are in let one = a.0 in let two = a.1 in (omega (arith, one, le), omega (arith, two, few)));
+  }
+
+  found_no_more : (pitch : ℕ) (b : Bounds) → AreFoundAt c pitch b
+      → AreNoMoreBy c.schedule.now c.class c.traffic.now c.higher.now pitch b.wait b.most
+  found_no_more pitch b f = record { busy = f.under.busy; always = f.under.always }
+
+  module _ (n : ℕ) (is : IsPitch (needs c.traffic.now) c.class c.higher.now (pitch_at c n)) where
+    -- where bounds are found by it
+    best_found : (best : Option Bounds) (b : Bounds) → IsBest c count n best → AreFoundAt c (pitch_at c n) b
+        → AreBest c count (n + 1) (lesser_of best b)
+    best_found None b h f = record {
+      wait_is = (pitch_at c n, b.most, is, f.hold);
+      most_is = (pitch_at c n, b.wait, is, f.hold);
+      least = λ pitch some t. elim (tried_next n pitch t) [
+        | inl before ↦ inl (h pitch some before)
+        | inr here ↦ inr (subst (λ p. AreNoMoreBy c.schedule.now c.class c.traffic.now c.higher.now p b.wait b.most) here
+            (found_no_more (pitch_at c n) b f))
+      ];
+    }
+    best_found (Some a) b h f = record {
+      wait_is = wait_of (cases_lt b.wait a.wait);
+      most_is = most_of (cases_lt b.most a.most);
+      least = λ pitch some t. elim (tried_next n pitch t) [
+        | inl before ↦ elim (h.least pitch some before) [
+          | inl long ↦ inl long
+          | inr none ↦ inr (no_more pitch a.wait a.most (min a.wait b.wait) (min a.most b.most) (omega arith) (omega arith) none)
+        ]
+        | inr here ↦ inr (no_more pitch b.wait b.most (min a.wait b.wait) (min a.most b.most) (omega arith) (omega arith)
+            (subst (λ p. AreNoMoreBy c.schedule.now c.class c.traffic.now c.higher.now p b.wait b.most) here
+            (found_no_more (pitch_at c n) b f)))
+      ];
+    }
+      where
+        Waits : ℕ → Type 0
+        Waits w = (pitch m : ℕ) × IsPitch (needs c.traffic.now) c.class c.higher.now pitch
+            × HoldBy c.schedule.now c.class c.traffic.now c.higher.now pitch w m
+
+        Mosts : ℕ → Type 0
+        Mosts m = (pitch w : ℕ) × IsPitch (needs c.traffic.now) c.class c.higher.now pitch
+            × HoldBy c.schedule.now c.class c.traffic.now c.higher.now pitch w m
+
+        wait_of : (b.wait < a.wait) ⊎ (a.wait ≤ b.wait) → Waits (min a.wait b.wait)
+        wait_of (inl less) =
+            let e : b.wait ≡ min a.wait b.wait = omega (arith, less) in
+            subst Waits e (pitch_at c n, b.most, is, f.hold)
+        wait_of (inr le) = (let e : a.wait ≡ min a.wait b.wait = omega (arith, le) in subst Waits e h.wait_is)
+
+        most_of : (b.most < a.most) ⊎ (a.most ≤ b.most) → Mosts (min a.most b.most)
+        most_of (inl less) =
+            let e : b.most ≡ min a.most b.most = omega (arith, less) in
+            subst Mosts e (pitch_at c n, b.wait, is, f.hold)
+        most_of (inr le) = (let e : a.most ≡ min a.most b.most = omega (arith, le) in subst Mosts e h.most_is)
+
+    -- where some busy period by it is too long
+    best_long : (best : Option Bounds) → IsBest c count n best → IsLongAt (pitch_at c n) → IsBest c count (n + 1) best
+    best_long None h long = λ pitch some t. elim (tried_next n pitch t) [
+      | inl before ↦ h pitch some before
+      | inr here ↦ subst IsLongAt here long
+    ]
+    best_long (Some b) h long = record {
+      wait_is = h.wait_is;
+      most_is = h.most_is;
+      least = λ pitch some t. elim (tried_next n pitch t) [
+        | inl before ↦ h.least pitch some before
+        | inr here ↦ inl (subst IsLongAt here long)
+      ];
+    }
+
+    pub best_more : (best : Option Bounds) (told : Result Bounds Unbound) → IsBest c count n best
+        → IfOk told (AreFoundAt c (pitch_at c n)) → IfErr told (IsUnseenAt c (pitch_at c n) count)
+        → IfOk (with_told best told) (IsBest c count (n + 1))
+    best_more best (Ok b) h found why = best_found best b h found
+    best_more best (Err Long) h found why = best_long best h why
+    best_more best (Err Stuck) h found why = tt
+    best_more best (Err Blocked) h found why = tt
+    best_more best (Err Memory) h found why = tt
+
+    pub no_way : (best : Option Bounds) (told : Result Bounds Unbound) → (IsStuck c → ⊥)
+        → IfErr told (IsUnseenAt c (pitch_at c n) count) → IfErr (with_told best told) (IsNoWay c)
+    no_way best (Ok b) taken why = tt
+    no_way best (Err Long) taken why = tt
+    no_way best (Err Stuck) taken why = absurd why
+    no_way best (Err Blocked) taken why = (why, taken)
+    no_way best (Err Memory) taken why = tt
+
+  pub not_found_of : (why : Unbound) → IsNoWay c why → IsNotFound c count why
+  not_found_of Blocked h = h
+  not_found_of Memory h = tt
+  not_found_of Long h = absurd h
+  not_found_of Stuck h = absurd h
+
+-- a pitch at a place is one that is tried
+pub pitch_is : (c : SharedClass) (n pitch : ℕ) → n ≤ length c.higher.now → 0 < pitch → pitch_at c n ≡ pitch
+    → IsPitch (needs c.traffic.now) c.class c.higher.now pitch
+pitch_is c n pitch le some is = record {
+  some = some;
+  of = (
+    n,
+    get_or (c.class ∷ c.higher.now) n 0,
+    slice_get-get_or (c.class ∷ c.higher.now) n 0 (omega (arith, le)),
+    is,
+  );
+}
+
+-- and each of them is at one
+tried_of : (c : SharedClass) (pitch : ℕ) → IsPitch (needs c.traffic.now) c.class c.higher.now pitch
+    → IsTried c (length c.higher.now + 1) pitch
+tried_of c pitch is =
+    let at = is.of in
+    let within = slice_get_within (c.class ∷ c.higher.now) at.0 at.1 at.2 in
+    let same = same_Some (get_or (c.class ∷ c.higher.now) at.0 0) at.1
+    (sym (slice_get-get_or (c.class ∷ c.higher.now) at.0 0 within) ∙ at.2) in
+    (at.0, omega (arith, within), ap (needs c.traffic.now) same ∙ at.3)
+
 -- ---- by what is known of the class
 
-pub not_found_of : (c : SharedClass) (curve : ℕ → ℕ) (count : ℕ) (found : Result Bounds Unbound) → (IsStuck c → ⊥)
-    → IfErr found (IsUnseen c curve count) → IfErr found (IsNotFound c curve count)
-not_found_of c curve count (Ok b) taken h = tt
-not_found_of c curve count (Err Long) taken h = h
-not_found_of c curve count (Err Blocked) taken h = (h, taken)
-not_found_of c curve count (Err Memory) taken h = tt
-not_found_of c curve count (Err Stuck) taken h = absurd h
-
-pub least_of : (c : SharedClass) → AreHigher c.schedule.now c.class c.higher.now → c.pitch ≡ pitch_of (needs c.traffic.now) c.class c.higher.now
-    → (found : Result Bounds Unbound) → IfOk found (AreFound c (arrivals_of c.traffic.now c.class))
-    → IfOk found (λ b. AreLeastOf c.schedule.now c.class c.traffic.now b.wait b.most)
-least_of c share is (Err why) h = tt
-least_of c share is (Ok b) h = record {
+pub least_of : (c : SharedClass) (limit : ℕ) → AreHigher c.schedule.now c.class c.higher.now → (found : Result Bounds Unbound)
+    → IfOk found (AreBest c limit (length c.higher.now + 1))
+    → IfOk found (λ b. AreLeastOf c.schedule.now c.class c.traffic.now limit b.wait b.most)
+least_of c limit share (Err why) h = tt
+least_of c limit share (Ok b) h = record {
   higher = c.higher.now;
   share = share;
-  least = subst (λ p. AreLeast c.schedule.now c.class (needs c.traffic.now) (blocking_of c) p (arrivals_of c.traffic.now c.class)
-      (start_curves c.traffic.now) c.higher.now b.wait b.most) is (record {
-        are = h.hold;
-        wait_least = λ w m given. (h.under.busy w m given).0;
-        most_least = λ w m given. (h.under.busy w m given).1;
-        wait_always = λ w m given. (h.under.always w m given).0;
-        most_always = λ w m given. (h.under.always w m given).1;
-      });
+  wait_is = h.wait_is;
+  most_is = h.most_is;
+  least = λ pitch is. h.least pitch is.some (tried_of c pitch is);
 }
 
-pub unbound_of : (c : SharedClass) (limit : ℕ) → AreHigher c.schedule.now c.class c.higher.now
-    → c.pitch ≡ pitch_of (needs c.traffic.now) c.class c.higher.now → (found : Result Bounds Unbound)
-    → IfErr found (IsNotFound c (arrivals_of c.traffic.now c.class) limit)
-    → IfErr found (IsUnbound c.schedule.now c.class c.traffic.now limit)
-unbound_of c limit share is (Ok b) h = tt
-unbound_of c limit share is (Err Memory) h = tt
-unbound_of c limit share is (Err Stuck) h = h
-unbound_of c limit share is (Err Blocked) h = record {
+pub unbound_of : (c : SharedClass) (limit : ℕ) → AreHigher c.schedule.now c.class c.higher.now → (found : Result Bounds Unbound)
+    → IfErr found (IsNotFound c limit) → IfErr found (IsUnbound c.schedule.now c.class c.traffic.now limit)
+unbound_of c limit share (Ok b) h = tt
+unbound_of c limit share (Err Memory) h = tt
+unbound_of c limit share (Err Stuck) h = h
+unbound_of c limit share (Err Blocked) h = record { taken = h.1; blocked = h.0 }
+unbound_of c limit share (Err Long) h = record {
   higher = c.higher.now;
   share = share;
-  taken = h.1;
-  blocked = subst (IsBlockedIn c.schedule.now c.class (needs c.traffic.now)) is h.0;
-}
-unbound_of c limit share is (Err Long) h = record {
-  higher = c.higher.now;
-  share = share;
-  long = subst (λ p. IsLongIn c.schedule.now c.class (needs c.traffic.now) p (arrivals_of c.traffic.now c.class)
-      (start_curves c.traffic.now) c.higher.now limit) is h;
+  long = λ pitch is. h pitch is.some (tried_of c pitch is);
 }

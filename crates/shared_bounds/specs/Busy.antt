@@ -5,7 +5,7 @@ use Rattle.burst_bounds.specs.Busy.{HasFrames, IsIdleBehind}
 use Rattle.burst_bounds.specs.Walk.{AreArrivals}
 use Rattle.burst_bounds.specs.declared.Bounds.{Bounds}
 use Rattle.shared_bounds.specs.Place.{blocking_of, own_of}
-use Rattle.shared_bounds.specs.Slots.{IsBlocked, IsFirstFor, IsStuck}
+use Rattle.shared_bounds.specs.Slots.{IsBlocked, IsFirstFor}
 use Rattle.shared_bounds.specs.Traffic.{needs, start_curves}
 use Rattle.shared_bounds.specs.Unbound.{IsBusyIn, IsLongIn}
 use Rattle.shared_bounds.specs.declared.Unbound.{Unbound}
@@ -79,10 +79,3 @@ pub record AreFound (c : SharedClass) (curve : ℕ → ℕ) (b : Bounds) : Type 
 -- for each curve with these arrivals
 abbrev pub AreFoundBy : SharedClass → (moments : List ℕ) → Bounds → Type 0
 AreFoundBy c moments b = (curve : ℕ → ℕ) → IsRead curve moments → AreFound c curve b
-
--- why the bounds aren't found
-abbrev pub IsNotFound : SharedClass → (ℕ → ℕ) → (count : ℕ) → Unbound → Type 0
-IsNotFound c curve count Stuck = IsStuck c
-IsNotFound c curve count Blocked = IsBlocked c × (IsStuck c → ⊥)
-IsNotFound c curve count Long = IsLong c curve count
-IsNotFound c curve count Memory = Unit {0}

@@ -1,5 +1,5 @@
 -- The least bounds of a class that shares its windows.
-use Rattle.std.specs.Prelude.{◌≡◌, ◌<◌, ◌≤◌, ◌+◌, ℕ, List, All, length}
+use Rattle.std.specs.Prelude.{◌≡◌, ◌<◌, ◌≤◌, ◌⊎◌, ◌+◌, ℕ, List, All, length}
 use Rattle.gate_list.specs.Gate.{Plan, in_ps}
 use Rattle.list_config.specs.History.{Accepted}
 use Rattle.abstract_port.specs.declared.Event.{Event}
@@ -7,7 +7,7 @@ use Rattle.any_traffic.specs.SharedBounds.{AreSharedBounds, IsSharedBusyPeriod}
 use Rattle.any_traffic.specs.SharedRuns.{IsSharedInTime, IsSharedRun}
 use Rattle.any_traffic.specs.SharedSlots.{IsBlocking}
 use Rattle.shared_bounds.specs.Blocking.{blocking}
-use Rattle.shared_bounds.specs.Sharing.{AreHigher, pitch_of}
+use Rattle.shared_bounds.specs.Sharing.{AreHigher, IsPitch}
 use Rattle.shared_bounds.specs.Traffic.{IsTraffic, arrivals_of, needs, start_curves}
 use Rattle.shared_bounds.specs.Unbound.{IsBlockedIn, IsLongIn, IsStuckIn}
 use Rattle.shared_bounds.specs.declared.ClassTraffic.{ClassTraffic}
@@ -15,40 +15,51 @@ use Rattle.shared_bounds.specs.declared.Unbound.{Unbound}
 use Rattle.shared_bounds.specs.declared.Unbound.TheVariants.{Blocked, Long, Memory, Stuck}
 
 module _ (plan : Plan) (class : ℕ) (need blocking : ℕ → ℕ) (pitch : ℕ) (curve : ℕ → ℕ) (curves : ℕ → ℕ → ℕ) (higher : List ℕ) where
-  -- Bounds that hold in the busy period from each moment on: so they hold in every run (`SharedBusyLaw`).
+  -- Bounds that hold in the busy period from each moment on, by slots of a pitch: so they hold in every run (`SharedBusyLaw`).
   abbrev pub AreBusyBounds : (wait most : ℕ) → Type 0
   AreBusyBounds wait most = (t : ℕ) → IsSharedBusyPeriod plan class need blocking pitch curve curves higher wait most t
 
-  -- And no others have a shorter wait or fewer frames that wait at once: neither bounds of busy periods nor such as hold at all moments of
-  -- all times.
-  pub record AreLeast (wait most : ℕ) : Type 0 where
-    pub are : AreBusyBounds wait most
-    pub wait_least : (w m : ℕ) → AreBusyBounds w m → wait ≤ w
-    pub most_least : (w m : ℕ) → AreBusyBounds w m → most ≤ m
-    pub wait_always : (w m : ℕ) → AreSharedBounds plan class need blocking pitch curve curves higher w m → wait ≤ w
-    pub most_always : (w m : ℕ) → AreSharedBounds plan class need blocking pitch curve curves higher w m → most ≤ m
+  -- No others by that pitch have a shorter wait or fewer frames that wait at once: neither bounds of busy periods nor such as hold at all
+  -- moments of all times.
+  pub record AreNoMore (wait most : ℕ) : Type 0 where
+    pub busy : (w m : ℕ) → AreBusyBounds w m → (wait ≤ w) × (most ≤ m)
+    pub always : (w m : ℕ) → AreSharedBounds plan class need blocking pitch curve curves higher w m → (wait ≤ w) × (most ≤ m)
+
+module _ (plan : Plan) (class : ℕ) (traffic : List ClassTraffic) (higher : List ℕ) where
+  -- by what is known of the classes, with the least blocking
+  abbrev pub HoldBy : (pitch wait most : ℕ) → Type 0
+  HoldBy pitch = AreBusyBounds plan class (needs traffic) (blocking plan class (needs traffic)) pitch (arrivals_of traffic class)
+      (start_curves traffic) higher
+
+  abbrev pub AreNoMoreBy : (pitch wait most : ℕ) → Type 0
+  AreNoMoreBy pitch = AreNoMore plan class (needs traffic) (blocking plan class (needs traffic)) pitch (arrivals_of traffic class)
+      (start_curves traffic) higher
+
+  -- from some moment on the busy period has more than so many slots of a pitch
+  abbrev pub IsLongBy : (pitch limit : ℕ) → Type 0
+  IsLongBy pitch limit = IsLongIn plan class (needs traffic) pitch (arrivals_of traffic class) (start_curves traffic) higher limit
 
 module _ (plan : Plan) (class : ℕ) (traffic : List ClassTraffic) where
-  -- the least bounds, by what is known of the classes: with the higher ones that share, the least blocking and the pitch
-  pub record AreLeastOf (wait most : ℕ) : Type 0 where
+  -- The least bounds, by what is known of the classes, with the higher ones that share: each is one by some pitch that is tried, and by none
+  -- that is tried is there a less one, as far as busy periods have no more than so many slots of it.
+  pub record AreLeastOf (limit wait most : ℕ) : Type 0 where
     pub higher : List ℕ
     pub share : AreHigher plan class higher
-    pub least : AreLeast plan class (needs traffic) (blocking plan class (needs traffic)) (pitch_of (needs traffic) class higher)
-        (arrivals_of traffic class) (start_curves traffic) higher wait most
+    pub wait_is : (pitch m : ℕ) × IsPitch (needs traffic) class higher pitch × HoldBy plan class traffic higher pitch wait m
+    pub most_is : (pitch w : ℕ) × IsPitch (needs traffic) class higher pitch × HoldBy plan class traffic higher pitch w most
+    pub least : (pitch : ℕ) → IsPitch (needs traffic) class higher pitch
+        → IsLongBy plan class traffic higher pitch limit ⊎ AreNoMoreBy plan class traffic higher pitch wait most
 
   -- no window takes the longest frame behind one of another class, but some takes it
   pub record IsBlockedOf : Type 0 where
-    pub higher : List ℕ
-    pub share : AreHigher plan class higher
     pub taken : IsStuckIn plan class (needs traffic) → ⊥
-    pub blocked : IsBlockedIn plan class (needs traffic) (pitch_of (needs traffic) class higher)
+    pub blocked : IsBlockedIn plan class (needs traffic)
 
-  -- from some moment on the busy period has more than so many slots
+  -- from some moment on the busy period has more than so many slots, of each pitch that is tried
   pub record IsLongOf (limit : ℕ) : Type 0 where
     pub higher : List ℕ
     pub share : AreHigher plan class higher
-    pub long : IsLongIn plan class (needs traffic) (pitch_of (needs traffic) class higher) (arrivals_of traffic class) (start_curves traffic)
-        higher limit
+    pub long : (pitch : ℕ) → IsPitch (needs traffic) class higher pitch → IsLongBy plan class traffic higher pitch limit
 
   -- why it has no bounds, where so many slots of a busy period may be looked at
   abbrev pub IsUnbound : (limit : ℕ) → Unbound → Type 0
@@ -72,9 +83,7 @@ BlockingLaw = (plan : Plan) (class : ℕ) (need : ℕ → ℕ) → 0 < plan.cycl
 -- The law: in every run in which the frames of each class are as it is known of them the least bounds hold.
 abbrev pub LeastLaw : Type 0
 LeastLaw =
-    (ps mtu room class wait most : ℕ) (traffic : List ClassTraffic) (higher : List ℕ) (a : Accepted) (plan : Plan) (events : List Event)
-    → length traffic ≡ 8 → All IsTraffic traffic → AreHigher plan class higher
-    → AreLeast plan class (needs traffic) (blocking plan class (needs traffic)) (pitch_of (needs traffic) class higher)
-    (arrivals_of traffic class) (start_curves traffic) higher wait most
-    → IsSharedRun ps mtu room events class (needs traffic) (arrivals_of traffic class) (start_curves traffic) higher a plan
+    (ps mtu room class limit wait most : ℕ) (traffic : List ClassTraffic) (a : Accepted) (plan : Plan) (events : List Event)
+    → length traffic ≡ 8 → All IsTraffic traffic → (least : AreLeastOf plan class traffic limit wait most)
+    → IsSharedRun ps mtu room events class (needs traffic) (arrivals_of traffic class) (start_curves traffic) least.higher a plan
     → IsSharedInTime ps mtu room events class wait most

@@ -7,3 +7,4 @@ pub mod Slots
 pub mod Busy
 pub mod Near
 pub mod Least
+pub mod Best

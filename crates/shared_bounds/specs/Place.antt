@@ -1,10 +1,10 @@
 -- A class under a schedule, beside the others.
-use Rattle.std.specs.Prelude.{◌≡◌, ◌<◌, ◌≤◌, ◌+◌, ◌^◌, ℕ, Bool, None, All, length}
+use Rattle.std.specs.Prelude.{◌≡◌, ◌<◌, ◌+◌, ◌^◌, ℕ, Bool, None, All, length}
 use Rattle.gate_list.specs.Gate.{IsSchedule}
 use Rattle.list_position.specs.Position.{IsPlaced}
 use Rattle.delay_bounds.specs.Walk.{may_by}
-use Rattle.any_traffic.specs.SharedSlots.{IsSharedSlot, is_opening}
-use Rattle.any_traffic.specs.SharedBounds.{most_above}
+use Rattle.any_traffic.specs.SharedSlots.{IsSharedSlot, is_opening, slots_of}
+use Rattle.any_traffic.specs.SharedBounds.{slots_above}
 use Rattle.shared_bounds.specs.Blocking.{blocking}
 use Rattle.shared_bounds.specs.Traffic.{IsTraffic, needs, start_curves}
 use Rattle.shared_bounds.specs.declared.place.SharedClass.{SharedClass}
@@ -16,7 +16,7 @@ pub record IsPlace (c : SharedClass) : Type 0 where
   pub all : length c.traffic.now ≡ 8
   pub traffic : All IsTraffic c.traffic.now
   pub some : 0 < needs c.traffic.now c.class
-  pub wide : needs c.traffic.now c.class ≤ c.pitch
+  pub stepped : 0 < c.pitch
   pub pitch : c.pitch < 2 ^ 60
   pub higher : All (λ j. j < 8) c.higher.now
 
@@ -35,10 +35,15 @@ abbrev pub takes_of : SharedClass → ℕ → Bool
 takes_of c u = may_of c u (blocking_of c u + own_of c)
 
 abbrev pub opening_of : SharedClass → ℕ → Bool
-opening_of c = is_opening (may_of c) (own_of c) c.pitch (blocking_of c)
+opening_of c = is_opening (may_of c) (own_of c) (blocking_of c)
 
 abbrev pub IsSlotOf : SharedClass → ℕ → ℕ → ℕ → Type 0
 IsSlotOf c = IsSharedSlot (may_of c) (own_of c) c.pitch (blocking_of c)
 
+-- how many slots one of its frames covers at most
+abbrev pub own_slots : SharedClass → ℕ
+own_slots c = slots_of (own_of c) c.pitch
+
+-- how many those of the higher classes cover that may start within a time
 abbrev pub above_of : SharedClass → ℕ → ℕ
-above_of c = most_above (start_curves c.traffic.now) c.higher.now
+above_of c = slots_above (needs c.traffic.now) c.pitch (start_curves c.traffic.now) c.higher.now

@@ -1,5 +1,5 @@
 -- Classes that share windows.
-use Rattle.std.specs.Prelude.{◌≡◌, ◌<◌, ℕ, max, List, [], ◌∷◌, Some, true, slice_get}
+use Rattle.std.specs.Prelude.{◌≡◌, ◌<◌, ℕ, List, ◌∷◌, Some, true, slice_get}
 use Rattle.gate_list.specs.Gate.{Plan}
 use Rattle.delay_bounds.specs.Walk.{may_by}
 use Rattle.any_traffic.specs.SharedSlots.{AreAbove}
@@ -16,7 +16,7 @@ pub record AreHigher (plan : Plan) (class : ℕ) (higher : List ℕ) : Type 0 wh
   pub share : (i j : ℕ) → slice_get higher i ≡ Some j → Share plan class j
   pub order : (i k j l : ℕ) → i < k → slice_get higher i ≡ Some j → slice_get higher k ≡ Some l → j < l
 
--- the pitch: for how long a frame of the class or of a higher one that shares with it needs the wire at most
-abbrev pub pitch_of : (need : ℕ → ℕ) (class : ℕ) → List ℕ → ℕ
-pitch_of need class [] = need class
-pitch_of need class (j ∷ higher) = max (need j) (pitch_of need class higher)
+-- The pitches that are tried: for how long a frame of the class, or of a higher one that shares with it, needs the wire at most.
+pub record IsPitch (need : ℕ → ℕ) (class : ℕ) (higher : List ℕ) (pitch : ℕ) : Type 0 where
+  pub some : 0 < pitch
+  pub of : (i j : ℕ) × (slice_get (class ∷ higher) i ≡ Some j) × (need j ≡ pitch)

@@ -1,7 +1,7 @@
 -- The slots of a class that shares its windows, and which of them is the one for so many frames.
-use Rattle.std.specs.Prelude.{◌≡◌, ◌<◌, ◌≤◌, ◌^◌, ℕ, ◌+◌, ◌-◌, ◌⊎◌, Bool, true, false}
+use Rattle.std.specs.Prelude.{◌≡◌, ◌<◌, ◌≤◌, ◌^◌, ℕ, ◌+◌, ◌-◌, ◌*◌, ◌⊎◌, Bool, true, false}
 use Rattle.any_traffic.specs.SharedSlots.{IsFirstShared, IsNextShared, IsNextWindow}
-use Rattle.shared_bounds.specs.Place.{IsSlotOf, above_of, blocking_of, may_of, opening_of, own_of}
+use Rattle.shared_bounds.specs.Place.{IsSlotOf, above_of, blocking_of, may_of, opening_of, own_of, own_slots}
 use Rattle.shared_bounds.specs.Traffic.{needs}
 use Rattle.shared_bounds.specs.Unbound.{IsBlockedIn, IsLateIn, IsStuckIn}
 use Rattle.shared_bounds.specs.declared.Unbound.{Unbound}
@@ -31,9 +31,10 @@ pub record IsNextOpening (opening : ℕ → Bool) (t u : ℕ) : Type 0 where
   pub opens : opening u ≡ true
   pub least : (m : ℕ) → t < m → m < u → opening m ≡ false
 
--- the slot behind n others is one for k frames from t on: so many slots are up to it as these and all that may start of the higher classes
+-- the slot behind n others is one for k frames from t on: no fewer are before it than all of these but the last may cover, and all that may
+-- start of the higher classes
 abbrev pub IsEnough : SharedClass → (t k n s : ℕ) → Type 0
-IsEnough c t k n s = k + above_of c (s - t) ≤ n + 1
+IsEnough c t k n s = own_slots c * (k - 1) + above_of c (s - t) ≤ n
 
 -- none of the first slots is one for k frames
 abbrev pub NoneFor : SharedClass → (t k count : ℕ) → Type 0
@@ -46,6 +47,15 @@ pub record IsSought (c : SharedClass) (t k count : ℕ) (slot : Slot) : Type 0 w
   pub from : t ≤ slot.at
   pub near : slot.at < 2 ^ 72 + 2 ^ 62
   pub none : NoneFor c t k slot.behind
+
+-- One of at most so many slots behind one.
+pub record IsOn (c : SharedClass) (old : Slot) (most : ℕ) (new : Slot) : Type 0 where
+  pub steps : ℕ
+  pub some : 0 < steps
+  pub few : steps ≤ most
+  pub behind : new.behind ≡ old.behind + steps
+  pub is : (t : ℕ) → IsSlotOf c t old.behind old.at → IsSlotOf c t new.behind new.at
+  pub later : old.at ≤ new.at
 
 -- The first slot for k frames begins at s.
 pub record IsFirstFor (c : SharedClass) (t k s : ℕ) : Type 0 where
@@ -60,7 +70,7 @@ IsLate c = IsLateIn c.schedule.now c.class (needs c.traffic.now) c.pitch
 
 -- no window that opens takes the longest frame behind one of another class
 abbrev pub IsBlocked : SharedClass → Type 0
-IsBlocked c = IsBlockedIn c.schedule.now c.class (needs c.traffic.now) c.pitch
+IsBlocked c = IsBlockedIn c.schedule.now c.class (needs c.traffic.now)
 
 -- no window takes the longest frame
 abbrev pub IsStuck : SharedClass → Type 0

@@ -1,9 +1,9 @@
 -- Why a class that shares its windows has no bounds.
-use Rattle.std.specs.Prelude.{◌≡◌, ◌<◌, ◌≤◌, ◌⊎◌, ◌^◌, ℕ, ◌+◌, ◌-◌, false, List}
+use Rattle.std.specs.Prelude.{◌≡◌, ◌<◌, ◌≤◌, ◌⊎◌, ◌^◌, ℕ, ◌+◌, ◌-◌, ◌*◌, false, List}
 use Rattle.gate_list.specs.Gate.{Plan}
 use Rattle.delay_bounds.specs.Walk.{may_by}
-use Rattle.any_traffic.specs.SharedBounds.{most_above}
-use Rattle.any_traffic.specs.SharedSlots.{IsSharedSlot, is_opening}
+use Rattle.any_traffic.specs.SharedBounds.{slots_above}
+use Rattle.any_traffic.specs.SharedSlots.{IsSharedSlot, is_opening, slots_of}
 use Rattle.shared_bounds.specs.Blocking.{blocking}
 
 module _ (plan : Plan) (class : ℕ) (need : ℕ → ℕ) where
@@ -11,13 +11,13 @@ module _ (plan : Plan) (class : ℕ) (need : ℕ → ℕ) where
   abbrev pub IsStuckIn : Type 0
   IsStuckIn = (t : ℕ) → may_by plan class t (need class) ≡ false
 
-  module _ (pitch : ℕ) where
-    -- The gate of the class is shut at times; and no window that opens takes the longest frame behind one of another class that may have
-    -- the wire then.
-    pub record IsBlockedIn : Type 0 where
-      pub shut : (t d : ℕ) × (may_by plan class t d ≡ false)
-      pub none : (u : ℕ) → is_opening (may_by plan class) (need class) pitch (blocking plan class need) u ≡ false
+  -- The gate of the class is shut at times; and no window that opens takes the longest frame behind one of another class that may have the
+  -- wire then.
+  pub record IsBlockedIn : Type 0 where
+    pub shut : (t d : ℕ) × (may_by plan class t d ≡ false)
+    pub none : (u : ℕ) → is_opening (may_by plan class) (need class) (blocking plan class need) u ≡ false
 
+  module _ (pitch : ℕ) where
     -- One of so many slots from t on begins behind the latest moment that is looked at.
     abbrev pub IsLateIn : (t count : ℕ) → Type 0
     IsLateIn t count = (n s : ℕ) × (n < count)
@@ -29,7 +29,8 @@ module _ (plan : Plan) (class : ℕ) (need : ℕ → ℕ) where
       abbrev pub IsBusyIn : (t count : ℕ) → Type 0
       IsBusyIn t count =
           (last n s : ℕ) → n < count → IsSharedSlot (may_by plan class) (need class) pitch (blocking plan class need) t n s
-          → curve last + most_above curves higher (s - t) ≤ n + 1 → t + last + 1 < s + need class
+          → slots_of (need class) pitch * (curve last - 1) + slots_above need pitch curves higher (s - t) ≤ n
+          → t + last + 1 < s + need class
 
       -- From some moment on the busy period has more than so many slots, or lasts until behind the latest moment that is looked at.
       abbrev pub IsLongIn : (count : ℕ) → Type 0

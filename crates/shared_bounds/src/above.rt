@@ -1,13 +1,15 @@
 //! How many frames of the higher classes may start within a time.
 
-ghost use Rattle.std.specs.Prelude.{◌≡◌, ℕ, ◌<◌, ◌≤◌, ◌+◌, ◌-◌, ◌^◌, ◌↔◌, All, IsTrue, min, length};
+ghost use Rattle.std.specs.Prelude.{◌≡◌, ℕ, ◌<◌, ◌≤◌, ◌+◌, ◌-◌, ◌*◌, ◌^◌, All, min, length};
+ghost use Rattle.any_traffic.specs.SharedSlots.{slots_of};
 ghost use Rattle.burst_bounds.specs.Talkers.{curve, IsTalker};
-ghost use Rattle.shared_bounds.specs.Place.{IsPlace, above_of};
-ghost use Rattle.shared_bounds.specs.Traffic.{IsTraffic, starts_of};
+ghost use Rattle.shared_bounds.specs.Place.{IsPlace, above_of, own_slots};
+ghost use Rattle.shared_bounds.specs.Traffic.{IsTraffic, needs, starts_of};
 
 use crate::ClassTraffic;
 use crate::place::SharedClass;
 use burst_bounds::Talker;
+use wire_time::CLASSES;
 
 /// How many frames of talkers come within a time at most, or a limit, where they are more.
 fn frames_within(talkers: &[Talker], time: u128, limit: u128) -> u128
@@ -36,30 +38,44 @@ fn starts_within(one: &ClassTraffic<'_>, time: u128, limit: u128) -> u128
 }
 
 impl SharedClass<'_, '_, '_> {
-    /// How many frames of the higher classes start within a time at most, or a limit.
+    /// How many slots a frame of a class covers at most.
+    fn slots_of(&self, class: u8) -> u128
+        requires place { IsPlace self.now }
+        requires class { class < CLASSES }
+        ensures slots { result ≡ slots_of (needs self.now.traffic.now class) self.now.pitch }
+        ensures few { result < 2 ^ 61 }
+    {
+        (self.need_of(class) + (self.pitch - 1)) / self.pitch
+    }
+
+    /// How many slots the frames of the higher classes cover that start within a time at most, or a limit.
     fn above_within(&self, time: u128, limit: u128) -> u128
         requires place { IsPlace self.now }
         requires time { time < 2 ^ 100 }
-        requires limit { limit < 2 ^ 99 }
+        requires limit { limit ≤ 2 ^ 64 }
         ensures { result ≡ min (above_of self.now time) limit }
     {
-        let mut starts = 0;
+        let mut slots = 0;
         for class in self.higher {
-            starts = (starts + starts_within(&self.traffic[*class as usize], time, limit)).min(
-                limit,
-            );
+            let starts = starts_within(&self.traffic[*class as usize], time, limit);
+            slots = (slots + self.slots_of(*class) * starts).min(limit);
         }
-        starts
+        slots
     }
 
-    /// Whether a slot behind so many others, which begins so long after the first moment, is one for so many frames.
-    pub fn is_enough(&self, frames: u128, behind: u128, time: u128) -> bool
+    /// How many slots more are before the one for so many frames, at least, than before one that begins so long after the
+    /// first moment; 0: that is one for them.
+    pub fn missing(&self, frames: u128, behind: u128, time: u128) -> u128
         requires place { IsPlace self.now }
-        requires frames { frames < 2 ^ 64 }
+        requires frames { (0 < frames) × (frames < 2 ^ 64) }
         requires behind { behind < 2 ^ 64 }
         requires time { time < 2 ^ 100 }
-        ensures { IsTrue result ↔ (frames + above_of self.now time ≤ behind + 1) }
+        ensures none { result ≡ 0 → own_slots self.now * (frames - 1) + above_of self.now time ≤ behind }
+        ensures some { 0 < result → behind + result ≤ own_slots self.now * (frames - 1) + above_of self.now time }
+        ensures few { result < 2 ^ 126 }
     {
-        frames + self.above_within(time, behind + 2) <= behind + 1
+        let own = self.slots_of(self.class) * (frames - 1);
+        let above = self.above_within(time, 1 << 64);
+        (own + above).saturating_sub(behind)
     }
 }

@@ -20,10 +20,13 @@ impl SharedClass<'_, '_, '_> {
         ensures last { IsLastIn self.now first by result }
         ensures near { result ≤ 2 ^ 72 + 2 ^ 63 }
     {
-        let length = self.pitch + self.need_of(self.class);
         let mut at = first;
-        while at + self.pitch <= by && self.may(self.class, at, length) {
-            at += self.pitch;
+        while at + self.pitch <= by {
+            let steps = self.steps(at, (by - at) / self.pitch);
+            if steps == 0 {
+                return at;
+            }
+            at += steps * self.pitch;
         }
         at
     }

@@ -32,7 +32,7 @@ pub struct SharedClass<'s, 't, 'h> {
     pub traffic: &'t [ClassTraffic<'t>],
     /// The higher classes that share windows with it.
     pub higher: &'h [u8],
-    /// For how long a frame of it or of those occupies the wire at most, in picoseconds.
+    /// How far its slots are apart, in picoseconds.
     pub pitch: u128,
 }
 

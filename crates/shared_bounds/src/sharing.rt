@@ -5,7 +5,7 @@ ghost use Rattle.wire_time.specs.Moment.{greatest_moment};
 ghost use Rattle.gate_list.specs.Gate.{IsSchedule};
 ghost use Rattle.delay_bounds.specs.Walk.{may_by};
 ghost use Rattle.list_position.specs.Position.{IsPlaced};
-ghost use Rattle.shared_bounds.specs.Sharing.{AreHigher, Share, pitch_of};
+ghost use Rattle.shared_bounds.specs.Sharing.{AreHigher, Share};
 ghost use Rattle.shared_bounds.specs.Traffic.{needs};
 
 use crate::ClassTraffic;
@@ -106,18 +106,4 @@ pub fn need_in(traffic: &[ClassTraffic<'_>], class: u8) -> u128
     ensures { result ≡ needs traffic.now class }
 {
     traffic[class as usize].need
-}
-
-/// For how long a frame of a class, or of those higher ones, occupies the wire at most.
-pub fn pitch_of(traffic: &[ClassTraffic<'_>], class: u8, higher: &[u8]) -> u128
-    requires all { length traffic.now ≡ 8 }
-    requires class { class < CLASSES }
-    requires higher { All (λ j. j < CLASSES) higher.now }
-    ensures { result ≡ pitch_of (needs traffic.now) class higher.now }
-{
-    let mut pitch = need_in(traffic, class);
-    for other in higher {
-        pitch = need_in(traffic, *other).max(pitch);
-    }
-    pitch
 }

@@ -1,14 +1,19 @@
 //! The slots of a class that shares its windows: the latest starts of its frames and of those of the higher classes.
 
-ghost use Rattle.std.specs.Prelude.{◌<◌, ◌≤◌, ◌+◌, ◌^◌, IfErr, IfOk};
-ghost use Rattle.shared_bounds.specs.Place.{IsPlace};
-ghost use Rattle.shared_bounds.specs.Slots.{IsEnough, IsFirstSlot, IsNextSlot, IsNoNext, IsNoneFor, IsShut, IsSought, IsWindowSlot};
+ghost use Rattle.std.specs.Prelude.{◌≡◌, ◌<◌, ◌≤◌, ◌+◌, ◌*◌, ◌^◌, true, false, IfErr, IfOk};
+ghost use Rattle.shared_bounds.specs.Place.{IsPlace, may_of, own_of};
+ghost use Rattle.shared_bounds.specs.Slots.{IsEnough, IsFirstSlot, IsNextSlot, IsNoNext, IsNoneFor, IsOn, IsShut, IsSought, IsWindowSlot};
 
 use crate::Unbound;
 use crate::place::SharedClass;
 
 /// Behind this moment nothing is looked at, in picoseconds.
 pub const LATEST: u128 = 1 << 72;
+
+/// So many slots are looked at in a step, and for so long.
+const MANY: u128 = 1 << 62;
+
+const LONG: u128 = 1 << 61;
 
 /// A slot: how many are before it, and when it begins.
 #[derive(Clone, Copy)]
@@ -69,6 +74,63 @@ impl SharedClass<'_, '_, '_> {
         self.window_slot(at)
     }
 
+    /// How many slots of its window are behind one, of so many.
+    pub fn steps(&self, at: u128, most: u128) -> u128
+        requires place { IsPlace self.now }
+        requires at { at ≤ 2 ^ 72 + 2 ^ 64 }
+        ensures most { result ≤ most }
+        ensures opened { 0 < result → may_of self.now at (result * self.now.pitch + own_of self.now) ≡ true }
+        ensures none { result ≡ 0 → 0 < most → may_of self.now at (self.now.pitch + own_of self.now) ≡ false }
+        ensures near { result * self.now.pitch ≤ 2 ^ 61 }
+    {
+        let need = self.need_of(self.class);
+        let few = most.min(MANY);
+        let time = (few * self.pitch).min(LONG);
+        let lasts = self.open_for(self.class, at, time + need);
+        lasts.saturating_sub(need) / self.pitch
+    }
+
+    /// The next slot.
+    fn slot_behind(&self, slot: Slot) -> Result<Slot, Unbound>
+        requires place { IsPlace self.now }
+        requires at { slot.at ≤ 2 ^ 73 }
+        requires behind { slot.behind < 2 ^ 64 }
+        ensures slot { IfOk result (IsOn self.now slot 1) }
+        ensures near { IfOk result (λ s. s.at < 2 ^ 72 + 2 ^ 62) }
+        ensures why { IfErr result (IsNoNext self.now slot.at) }
+    {
+        match self.next_slot(slot.at) {
+            Ok(at) => Ok(Slot {
+                behind: slot.behind + 1,
+                at,
+            }),
+            Err(why) => Err(why),
+        }
+    }
+
+    /// The last slot of its window of so many behind one; or the next one, where that is in a later window.
+    fn slot_on(&self, slot: Slot, most: u128) -> Result<Slot, Unbound>
+        requires place { IsPlace self.now }
+        requires at { slot.at ≤ 2 ^ 73 }
+        requires behind { slot.behind < 2 ^ 64 }
+        requires most { (0 < most) × (most < 2 ^ 64) }
+        ensures slot { IfOk result (IsOn self.now slot most) }
+        ensures near { IfOk result (λ s. s.at < 2 ^ 72 + 2 ^ 62) }
+        ensures why { IfErr result (IsNoNext self.now slot.at) }
+    {
+        if slot.at > LATEST {
+            return Err(Unbound::Long);
+        }
+        let steps = self.steps(slot.at, most);
+        if steps == 0 {
+            return self.slot_behind(slot);
+        }
+        Ok(Slot {
+            behind: slot.behind + steps,
+            at: slot.at + steps * self.pitch,
+        })
+    }
+
     /// The first slot from one on that is one for so many frames, which come from a moment on.
     pub fn slot_for(
         &self,
@@ -78,7 +140,7 @@ impl SharedClass<'_, '_, '_> {
         limit: u128,
     ) -> Result<Slot, Unbound>
         requires place { IsPlace self.now }
-        requires frames { frames < 2 ^ 64 }
+        requires frames { (0 < frames) × (frames < 2 ^ 64) }
         requires limit { limit < 2 ^ 64 }
         requires first { IsSought self.now from frames limit first }
         ensures slot { IfOk result (IsSought self.now from frames limit) }
@@ -86,17 +148,16 @@ impl SharedClass<'_, '_, '_> {
         ensures why { IfErr result (IsNoneFor self.now from frames limit) }
     {
         let mut slot = first;
-        while !self.is_enough(frames, slot.behind, slot.at - from) {
-            if slot.behind + 1 >= limit {
+        let mut missing = self.missing(frames, slot.behind, slot.at - from);
+        while missing > 0 {
+            if slot.behind + missing >= limit {
                 return Err(Unbound::Long);
             }
-            slot = match self.next_slot(slot.at) {
-                Ok(at) => Slot {
-                    behind: slot.behind + 1,
-                    at,
-                },
+            slot = match self.slot_on(slot, missing) {
+                Ok(next) => next,
                 Err(why) => return Err(why),
             };
+            missing = self.missing(frames, slot.behind, slot.at - from);
         }
         Ok(slot)
     }

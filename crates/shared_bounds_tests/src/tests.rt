@@ -134,7 +134,7 @@ fn bounds_are_the_least(rt: HostRuntime) {
     );
     let judged = ClassTraffic { bounds, ..control };
     let want = Ok(Bounds {
-        wait: 163_039,
+        wait: 162_719,
         most: 2,
     });
     assert_eq!(rt;

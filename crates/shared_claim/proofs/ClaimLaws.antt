@@ -152,10 +152,10 @@ module _ (plan : Plan) (traffic : ℕ → List ClassTraffic) (bounds : ℕ → B
   in_time : (n class : ℕ) → 8 ≤ class + n → class < 8 → judged class ≡ true → IsKept class
   in_time zero class far less j = absurd (omega (arith, far, less))
   in_time (suc n) class far less j =
-      let least = is.least class j in
+      let least = (is.least class j).1 in
       let size = is.eight class j in
-      least_law ps mtu room class (bounds class).wait (bounds class).most (traffic class) least.higher r.command plan events
-      size (is.known class j) least.share least.least (record {
+      least_law ps mtu room class (is.least class j).0 (bounds class).wait (bounds class).most (traffic class) r.command plan events
+      size (is.known class j) least (record {
         run = run_of class less j;
         short = short class less j;
         conform = r.conform class less j;

@@ -12,14 +12,15 @@ use Rattle.abstract_port.specs.declared.Change.{Change}
 use Rattle.separation.specs.Traffic.{Came}
 use Rattle.delay_bounds.specs.Walk.{may_by}
 use Rattle.any_traffic.specs.ArrivalCurve.{ConformTo}
-use Rattle.any_traffic.specs.SharedSlots.{IsBlocking}
+use Rattle.any_traffic.specs.SharedBounds.{slots_above}
+use Rattle.any_traffic.specs.SharedSlots.{IsBlocking, slots_of}
 use Rattle.any_traffic.proofs.ListLaws.{none_here}
 use Rattle.burst_bounds.specs.Talkers.{IsTalker, curve}
 use Rattle.burst_bounds.specs.declared.Bounds.{Bounds}
 use Rattle.burst_bounds.specs.declared.Talker.{Talker}
 use Rattle.shared_bounds.specs.Blocking.{blocking}
-use Rattle.shared_bounds.specs.Least.{AreLeastOf, IsLeastBlocking}
-use Rattle.shared_bounds.specs.Sharing.{AreHigher, Share, pitch_of}
+use Rattle.shared_bounds.specs.Least.{AreLeastOf, AreNoMoreBy, HoldBy, IsLeastBlocking}
+use Rattle.shared_bounds.specs.Sharing.{AreHigher, IsPitch, Share}
 use Rattle.shared_bounds.specs.Traffic.{IsTraffic, arrivals_of, frames_of, need_of, needs, start_curves}
 use Rattle.shared_bounds.specs.declared.ClassTraffic.{ClassTraffic}
 use Rattle.shared_bounds.proofs.RunLaws.{blocking_law}
@@ -27,7 +28,7 @@ use Rattle.shared_bounds.proofs.TrafficLaws.{none_past}
 use Rattle.premises.specs.Runs.{IsTaken, in_force_from, scheduled}
 use Rattle.shared_claim.specs.SharedClaim.{AreJudged}
 use Rattle.shared_claim.specs.SharedPremises.{CanShare, ComeWithin, PremisesAreMet, frames_to}
-use Rattle.shared_claim.proofs.WindowBounds.{window_least}
+use Rattle.shared_claim.proofs.WindowBounds.{busy, window_least}
 
 -- ---- the schedule
 
@@ -318,32 +319,92 @@ above_seven = record {
   order = λ i k j l less e h. absurd (none_here i j e);
 }
 
-least_five : AreLeastOf plan 5 (traffic 5) (bounds 5).wait (bounds 5).most
-least_five = record {
-  higher = 6 ∷ 7 ∷ [];
-  share = above_five;
-  least = window_least plan 5 (needs (traffic 5)) (blocking plan 5 (needs (traffic 5))) (pitch_of (needs (traffic 5)) 5 (6 ∷ 7 ∷ []))
+-- each frame covers one slot of the only pitch
+one_slot : slots_of 1136000 1136000 ≡ 1
+unfolding slots_of
+one_slot = omega arith
+
+few_five : (y : ℕ) → y < 500000000 → slots_above (needs (traffic 5)) 1136000 (start_curves (traffic 5)) (6 ∷ 7 ∷ []) y ≡ 2
+few_five y less = ap (λ w. 0 + w * start_curves (traffic 5) 6 y + w * start_curves (traffic 5) 7 y) one_slot ∙
+    (let e : 0 + 1 * start_curves (traffic 5) 6 y + 1 * start_curves (traffic 5) 7 y ≡ 2 = omega (arith, less) in e)
+
+few_six : (y : ℕ) → y < 500000000 → slots_above (needs (traffic 6)) 1136000 (start_curves (traffic 6)) (7 ∷ []) y ≡ 1
+few_six y less = ap (λ w. 0 + w * start_curves (traffic 6) 7 y) one_slot ∙
+    (let e : 0 + 1 * start_curves (traffic 6) 7 y ≡ 1 = omega (arith, less) in e)
+
+-- bounds by that pitch are the least, where no class that shares needs the wire for another time
+module _ (class wait : ℕ) (higher : List ℕ) (share : AreHigher plan class higher)
+    (hold : HoldBy plan class (traffic class) higher 1136000 wait 1)
+    (no_more : AreNoMoreBy plan class (traffic class) higher 1136000 wait 1) (own : needs (traffic class) class ≡ 1136000)
+    (same : (i j : ℕ) → slice_get (class ∷ higher) i ≡ Some j → needs (traffic class) j ≡ 1136000) where
+  is_pitch : IsPitch (needs (traffic class)) class higher 1136000
+  is_pitch = record { some = omega arith; of = (0, class, refl, own) }
+
+  least_by : AreLeastOf plan class (traffic class) 1 wait 1
+  least_by = record {
+    higher = higher;
+    share = share;
+    wait_is = (1136000, 1, is_pitch, hold);
+    most_is = (1136000, wait, is_pitch, hold);
+    least = λ pitch is.
+        let at = is.of in
+        let even : 1136000 ≡ pitch = sym (same at.0 at.1 at.2) ∙ at.3 in
+        inr (subst (λ p. AreNoMoreBy plan class (traffic class) higher p wait 1) even no_more);
+  }
+
+least_five : (limit : ℕ) × AreLeastOf plan 5 (traffic 5) limit (bounds 5).wait (bounds 5).most
+least_five = (
+  1,
+  least_by 5 (bounds 5).wait (6 ∷ 7 ∷ []) above_five
+      (busy plan 5 (needs (traffic 5)) (blocking plan 5 (needs (traffic 5))) 1136000
       (arrivals_of (traffic 5) 5) (start_curves (traffic 5)) (6 ∷ 7 ∷ []) 2 (omega arith) (opened 5 (omega arith)) (shut 5 (omega arith)) refl refl
-      (block_most 5) (block_none 5) (block_late 5 (omega arith)) one_comes (λ y less. omega (arith, less));
-}
+      (block_most 5) (block_none 5) (block_late 5 (omega arith)) one_comes few_five)
+      (window_least plan 5 (needs (traffic 5)) (blocking plan 5 (needs (traffic 5))) 1136000
+      (arrivals_of (traffic 5) 5) (start_curves (traffic 5)) (6 ∷ 7 ∷ []) 2 (omega arith) (opened 5 (omega arith)) (shut 5 (omega arith)) refl refl
+      (block_most 5) (block_none 5) (block_late 5 (omega arith)) one_comes few_five)
+      refl by,
+)
+  where
+    by : (i j : ℕ) → slice_get (let js : List ℕ = 5 ∷ 6 ∷ 7 ∷ [] in js) i ≡ Some j → needs (traffic 5) j ≡ 1136000
+    by zero j e = sym (ap (needs (traffic 5)) (same_Some 5 j e))
+    by (suc zero) j e = sym (ap (needs (traffic 5)) (same_Some 6 j e))
+    by (suc (suc zero)) j e = sym (ap (needs (traffic 5)) (same_Some 7 j e))
+    by (suc (suc (suc i))) j e = absurd (none_here i j e)
 
-least_six : AreLeastOf plan 6 (traffic 6) (bounds 6).wait (bounds 6).most
-least_six = record {
-  higher = 7 ∷ [];
-  share = above_six;
-  least = window_least plan 6 (needs (traffic 6)) (blocking plan 6 (needs (traffic 6))) (pitch_of (needs (traffic 6)) 6 (7 ∷ []))
+least_six : (limit : ℕ) × AreLeastOf plan 6 (traffic 6) limit (bounds 6).wait (bounds 6).most
+least_six = (
+  1,
+  least_by 6 (bounds 6).wait (7 ∷ []) above_six
+      (busy plan 6 (needs (traffic 6)) (blocking plan 6 (needs (traffic 6))) 1136000
       (arrivals_of (traffic 6) 6) (start_curves (traffic 6)) (7 ∷ []) 1 (omega arith) (opened 6 (omega arith)) (shut 6 (omega arith)) refl refl
-      (block_most 6) (block_none 6) (block_late 6 (omega arith)) one_comes (λ y less. omega (arith, less));
-}
+      (block_most 6) (block_none 6) (block_late 6 (omega arith)) one_comes few_six)
+      (window_least plan 6 (needs (traffic 6)) (blocking plan 6 (needs (traffic 6))) 1136000
+      (arrivals_of (traffic 6) 6) (start_curves (traffic 6)) (7 ∷ []) 1 (omega arith) (opened 6 (omega arith)) (shut 6 (omega arith)) refl refl
+      (block_most 6) (block_none 6) (block_late 6 (omega arith)) one_comes few_six)
+      refl by,
+)
+  where
+    by : (i j : ℕ) → slice_get (let js : List ℕ = 6 ∷ 7 ∷ [] in js) i ≡ Some j → needs (traffic 6) j ≡ 1136000
+    by zero j e = sym (ap (needs (traffic 6)) (same_Some 6 j e))
+    by (suc zero) j e = sym (ap (needs (traffic 6)) (same_Some 7 j e))
+    by (suc (suc i)) j e = absurd (none_here i j e)
 
-least_seven : AreLeastOf plan 7 (traffic 7) (bounds 7).wait (bounds 7).most
-least_seven = record {
-  higher = [];
-  share = above_seven;
-  least = window_least plan 7 (needs (traffic 7)) (blocking plan 7 (needs (traffic 7))) (pitch_of (needs (traffic 7)) 7 [])
+least_seven : (limit : ℕ) × AreLeastOf plan 7 (traffic 7) limit (bounds 7).wait (bounds 7).most
+least_seven = (
+  1,
+  least_by 7 (bounds 7).wait [] above_seven
+      (busy plan 7 (needs (traffic 7)) (blocking plan 7 (needs (traffic 7))) 1136000
       (arrivals_of (traffic 7) 7) (start_curves (traffic 7)) [] 0 (omega arith) (opened 7 (omega arith)) (shut 7 (omega arith)) refl refl
-      (block_most 7) (block_none 7) (block_late 7 (omega arith)) one_comes (λ y less. refl);
-}
+      (block_most 7) (block_none 7) (block_late 7 (omega arith)) one_comes (λ y less. refl))
+      (window_least plan 7 (needs (traffic 7)) (blocking plan 7 (needs (traffic 7))) 1136000
+      (arrivals_of (traffic 7) 7) (start_curves (traffic 7)) [] 0 (omega arith) (opened 7 (omega arith)) (shut 7 (omega arith)) refl refl
+      (block_most 7) (block_none 7) (block_late 7 (omega arith)) one_comes (λ y less. refl))
+      refl by,
+)
+  where
+    by : (i j : ℕ) → slice_get (let js : List ℕ = 7 ∷ [] in js) i ≡ Some j → needs (traffic 7) j ≡ 1136000
+    by zero j e = sym (ap (needs (traffic 7)) (same_Some 7 j e))
+    by (suc i) j e = absurd (none_here i j e)
 
 are_judged : AreJudged plan traffic bounds judged silent
 are_judged = record {
@@ -363,7 +424,7 @@ are_judged = record {
       let there = need_is class j listed in
       let least = (need_or (leb class j)).2 in
       omega (arith, own, there, least);
-  least = λ class e. each_judged (λ c. AreLeastOf plan c (traffic c) (bounds c).wait (bounds c).most) least_five least_six least_seven class e;
+  least = λ class e. each_judged (λ c. (limit : ℕ) × AreLeastOf plan c (traffic c) limit (bounds c).wait (bounds c).most) least_five least_six least_seven class e;
 }
 
 -- ---- the frames, one of each class, each a microsecond behind the one before it

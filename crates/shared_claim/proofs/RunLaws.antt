@@ -255,6 +255,10 @@ module _ (ps mtu room : ℕ) (change : Change) (traffic : ℕ → List ClassTraf
     others = short;
   }
 
+  begins : (is_run.command).change ≡ in_force_from ps mtu room change
+  unfolding is_run
+  begins = refl
+
   ends : end_of_run ps mtu room all ≡ until
   ends = ap (λ q. (port_after coming.events q).now) behind ∙ coming.ends
 
@@ -264,4 +268,5 @@ runs ps mtu room change traffic judged silent came until c = (
   is_run ps mtu room change traffic judged silent came until c,
   offers ps mtu room change traffic judged silent came until c,
   ends ps mtu room change traffic judged silent came until c,
+  begins ps mtu room change traffic judged silent came until c,
 )

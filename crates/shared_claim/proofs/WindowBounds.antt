@@ -5,9 +5,9 @@ use Rattle.std.proofs.Common.{◌≡◌, ◌<◌, ◌≤◌, ◌⊎◌, inl, inr
 use Rattle.std.proofs.lemmas.Bool.{both_ways, cases_lt}
 use Rattle.gate_list.specs.Gate.{Plan}
 use Rattle.delay_bounds.specs.Walk.{may_by}
-use Rattle.any_traffic.specs.SharedBounds.{IsSharedBusyPeriod, IsSlotFor, most_above}
-use Rattle.any_traffic.specs.SharedSlots.{IsFirstShared, IsNextShared, IsNextWindow, IsSharedSlot, is_opening}
-use Rattle.shared_bounds.specs.Least.{AreLeast}
+use Rattle.any_traffic.specs.SharedBounds.{IsSharedBusyPeriod, IsSlotFor, slots_above}
+use Rattle.any_traffic.specs.SharedSlots.{IsFirstShared, IsNextShared, IsNextWindow, IsSharedSlot, is_opening, slots_of}
+use Rattle.shared_bounds.specs.Least.{AreBusyBounds, AreNoMore}
 
 -- the beginning of the window behind a moment
 abbrev next_at : ℕ → ℕ
@@ -22,20 +22,20 @@ module _ (plan : Plan) (class : ℕ) (need blocking : ℕ → ℕ) (pitch : ℕ)
     (shut : (m d : ℕ) → 0 < d → 600000000 < m % 1000000000 + d → may_by plan class m d ≡ false) (own : need class ≡ 1136000)
     (even : pitch ≡ 1136000) (most : (t : ℕ) → blocking t ≤ 12335999) (none : (u : ℕ) → 0 < u → u % 1000000000 ≡ 0 → blocking u ≡ 0)
     (late : 12335999 ≤ blocking 586528002) (one : (x : ℕ) → x < 500000000 → curve x ≡ 1)
-    (few : (y : ℕ) → y < 500000000 → most_above curves higher y ≡ above) where
+    (few : (y : ℕ) → y < 500000000 → slots_above need pitch curves higher y ≡ above) where
   abbrev may : ℕ → ℕ → Bool
   may = may_by plan class
 
   -- ---- windows
 
-  opens_at : (u : ℕ) → 0 < u → u % 1000000000 ≡ 0 → is_opening may (need class) pitch blocking u ≡ true
+  opens_at : (u : ℕ) → 0 < u → u % 1000000000 ≡ 0 → is_opening may (need class) blocking u ≡ true
   opens_at u some whole =
       let before = shut (u - 1) 1 (omega arith) (omega (arith, some, whole)) in
       let block = none u some whole in
       let fits = opened u (blocking u + need class) (omega (arith, whole, block, own)) in
       ap (λ b. not b && may u (blocking u + need class)) before ∙ fits
 
-  opens_not : (v : ℕ) → 0 < v → 0 < v % 1000000000 → is_opening may (need class) pitch blocking v ≡ false
+  opens_not : (v : ℕ) → 0 < v → 0 < v % 1000000000 → is_opening may (need class) blocking v ≡ false
   opens_not v some inside = elim (cases_lt ((v - 1) % 1000000000) 600000000) [
     | inl within ↦
         let before = opened (v - 1) 1 (omega (arith, within)) in
@@ -187,7 +187,8 @@ module _ (plan : Plan) (class : ℕ) (need blocking : ℕ → ℕ) (pitch : ℕ)
       let slot = slot_by t above two in
       let by = slot.by in
       let count = few (slot.at - t) (omega (arith, by, two)) in
-      (slot.at, record { behind = above; is = slot.is; enough = omega (arith, count) }, by)
+      let own : slots_of (need class) pitch * (1 - 1) ≡ 0 = omega arith in
+      (slot.at, record { behind = above; is = slot.is; enough = omega (arith, own, count) }, by)
 
   no_sooner : (s : ℕ) → IsFor 586528002 1 s → 1000000000 + above * 1136000 ≤ s
   no_sooner s k = elim (cases_lt k.behind above) [
@@ -217,7 +218,7 @@ module _ (plan : Plan) (class : ℕ) (need blocking : ℕ → ℕ) (pitch : ℕ)
       by (inl no_frame) = (let first = one 0 (omega arith) in let all = k.1 in omega (arith, first, all, no_frame))
       by (inr begun) = (let early = begun.2 in absurd (omega (arith, early)))
 
-  busy : (t : ℕ) → IsSharedBusyPeriod plan class need blocking pitch curve curves higher (413471998 + above * 1136000) 1 t
+  pub busy : AreBusyBounds plan class need blocking pitch curve curves higher (413471998 + above * 1136000) 1
   busy t =
       let first = for_one t in
       let by = first.2 in
@@ -231,11 +232,8 @@ module _ (plan : Plan) (class : ℕ) (need blocking : ℕ → ℕ) (pitch : ℕ)
         few = λ x le. (let count = one x (omega (arith, le, two)) in (0, omega (arith, count), inl refl));
       }
 
-  pub window_least : AreLeast plan class need blocking pitch curve curves higher (413471998 + above * 1136000) 1
+  pub window_least : AreNoMore plan class need blocking pitch curve curves higher (413471998 + above * 1136000) 1
   window_least = record {
-    are = busy;
-    wait_least = λ w m are. least_wait w ((are 586528002).soon 0 (omega arith));
-    most_least = λ w m are. least_most m ((are 0).few 0 (omega arith));
-    wait_always = λ w m are. least_wait w (are.soon 586528002 0);
-    most_always = λ w m are. least_most m (are.few 0 0);
+    busy = λ w m are. (least_wait w ((are 586528002).soon 0 (omega arith)), least_most m ((are 0).few 0 (omega arith)));
+    always = λ w m are. (least_wait w (are.soon 586528002 0), least_most m (are.few 0 0));
   }

@@ -28,7 +28,8 @@ IsHigher plan class j = (class < j) × (j < 8) × Share plan class j
 
 -- Each class that is judged is so by its `traffic`: what is known of the eight classes. The higher ones that share windows with it are
 -- judged, too, or send nothing; of those that are judged it is known how many frames come, and which bounds they have. No class that is
--- judged needs the wire for longer than is known of it where another one is. And the bounds of each are the least by what is known.
+-- judged needs the wire for longer than is known of it where another one is. And the bounds of each are the least by what is known, where
+-- some number of slots is looked at.
 pub record AreJudged (plan : Plan) (traffic : ℕ → List ClassTraffic) (bounds : ℕ → Bounds) (judged silent : ℕ → Bool) : Type 0 where
   pub eight : (class : ℕ) → judged class ≡ true → length (traffic class) ≡ 8
   pub known : (class : ℕ) → judged class ≡ true → All IsTraffic (traffic class)
@@ -38,7 +39,8 @@ pub record AreJudged (plan : Plan) (traffic : ℕ → List ClassTraffic) (bounds
   pub bound : (class j : ℕ) (t : ClassTraffic) → judged class ≡ true → IsHigher plan class j → judged j ≡ true
       → slice_get (traffic class) j ≡ Some t → t.bounds ≡ bounds j
   pub need : (class j : ℕ) → judged class ≡ true → judged j ≡ true → needs (traffic j) j ≤ needs (traffic class) j
-  pub least : (class : ℕ) → judged class ≡ true → AreLeastOf plan class (traffic class) (bounds class).wait (bounds class).most
+  pub least : (class : ℕ) → judged class ≡ true
+      → (limit : ℕ) × AreLeastOf plan class (traffic class) limit (bounds class).wait (bounds class).most
 
 -- 2. In a run
 

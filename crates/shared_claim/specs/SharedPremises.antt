@@ -51,14 +51,14 @@ pub record CanShare (ps mtu room : ℕ) (change : Change) (traffic : ℕ → Lis
   pub others : (class j k : ℕ) (f : Came) → class < 8 → judged class ≡ true → j < 8 → judged j ≡ false → silent j ≡ false
       → slice_get (frames_to (scheduled ps mtu room change) j came) k ≡ Some f → occupancy_of ps f.frame.len ≤ needs (traffic class) j
 
--- The law: then they come, and no others, in a run of which the claim speaks, up to that moment.
+-- The law: then they come, and no others, in a run of which the claim speaks, up to that moment. Its schedule is given at its beginning.
 abbrev pub SharedRunsExist : Type 0
 SharedRunsExist =
     (ps mtu room : ℕ) (change : Change) (traffic : ℕ → List ClassTraffic) (judged silent : ℕ → Bool) (came : List Came) (until : ℕ)
     → CanShare ps mtu room change traffic judged silent came until
-    → (events : List Event) × IsSharingRun ps mtu room (plan_asked change) traffic judged silent events
+    → (events : List Event) × (r : IsSharingRun ps mtu room (plan_asked change) traffic judged silent events)
     × ((class : ℕ) → offered ps mtu room class events ≡ frames_to (scheduled ps mtu room change) class came)
-    × (end_of_run ps mtu room events ≡ until)
+    × (end_of_run ps mtu room events ≡ until) × ((r.command).change ≡ in_force_from ps mtu room change)
 
 -- 2. All of it can be met at once
 

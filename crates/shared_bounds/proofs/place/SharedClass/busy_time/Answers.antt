@@ -78,5 +78,5 @@ returns-clause-why g c =
     let all = c.loop-i-test.false in
     let some = c.requires.some in
     let most = c.loop-i.auto.i-end in
-    by_last c.args.self.now c.args.from c.args.moments.now c.loop-i.starts.items c.loop-i.i (length c.args.moments.now - 1)
+    by_last c.args.self.now c.args.from c.args.moments.now c.requires.place c.loop-i.starts.items c.loop-i.i (length c.args.moments.now - 1)
     inv.busy inv.count (omega (arith, some, most)) all

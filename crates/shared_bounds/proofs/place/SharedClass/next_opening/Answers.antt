@@ -18,7 +18,7 @@ returns-then-stop-end-clause-opening c =
     let value = c.cycle_ns.ensures.value in
     none_ever it c.requires.place c.args.from (λ u after within. elim (cases_lt c.loop-at.at u) [
       | inr before ↦ inv.3 u after before
-      | inl behind ↦ none_opens mask it.class (own_of it) it.pitch (blocking_of it) c.requires.place.some c.loop-at.at c.in_ok-end.end
+      | inl behind ↦ none_opens mask it.class (own_of it) (blocking_of it) c.requires.place.some c.loop-at.at c.in_ok-end.end
           (flat_on mask c.loop-at.at c.in_ok-end.end flat) u behind (omega (arith, within, past, wide, value))
     ])
 
@@ -35,7 +35,7 @@ returns-then-is_opening-clause-opening c =
       opens = sym c.is_opening.ensures ∙ c.if-is_opening.true;
       least = λ u after before. elim (cases_lt c.loop-at.at u) [
         | inr early ↦ inv.3 u after early
-        | inl behind ↦ none_opens mask it.class (own_of it) it.pitch (blocking_of it) c.requires.place.some c.loop-at.at c.in_ok-end.end
+        | inl behind ↦ none_opens mask it.class (own_of it) (blocking_of it) c.requires.place.some c.loop-at.at c.in_ok-end.end
             (flat_on mask c.loop-at.at c.in_ok-end.end flat) u behind before
       ];
     }
@@ -54,7 +54,7 @@ loop-at-preserved c =
       λ u after within. elim (cases_lt c.loop-at.at u) [
         | inr early ↦ inv.3 u after early
         | inl behind ↦ elim (cases_lt u c.in_ok-end.end) [
-          | inl before ↦ none_opens mask it.class (own_of it) it.pitch (blocking_of it) c.requires.place.some c.loop-at.at c.in_ok-end.end
+          | inl before ↦ none_opens mask it.class (own_of it) (blocking_of it) c.requires.place.some c.loop-at.at c.in_ok-end.end
               (flat_on mask c.loop-at.at c.in_ok-end.end flat) u behind before
           | inr here ↦
               let same : c.in_ok-end.end ≡ u = omega (arith, here, within) in

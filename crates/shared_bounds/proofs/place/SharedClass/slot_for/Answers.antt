@@ -1,24 +1,31 @@
-use Rattle.std.proofs.Common.{◌≡◌, ◌+◌, ℕ, inl, subst, arith}
-use Rattle.std.proofs.lemmas.Bool.{both_ways}
-use Rattle.shared_bounds.specs.Slots.{NoneFor}
-use Rattle.shared_bounds.proofs.ForLaws.{none_yet, sought_next}
+use Rattle.std.proofs.Common.{inl, arith}
+use Rattle.shared_bounds.proofs.ForLaws.{none_behind, none_left, sought_on}
 use Rattle.shared_bounds.proofs.place.SharedClass.slot_for.Goals as goal
 
-pub returns-then-slot-limit-clause-why : goal.returns-then-slot-limit-clause-why
-returns-then-slot-limit-clause-why c =
+pub returns-then-slot-missing-clause-why : goal.returns-then-slot-missing-clause-why
+returns-then-slot-missing-clause-why c =
     let it = c.args.self.now in
-    let inv = c.loop-slot.invariant in
-    let n : ℕ = c.loop-slot.slot.behind in
-    let past = c.if-slot-limit.true in
-    let among = inv.among in
-    let all : n + 1 ≡ c.args.limit = omega (arith, past, among) in
-    inl (subst (NoneFor it c.args.from c.args.frames) all (none_yet it c.args.from c.args.frames n c.loop-slot.slot.at inv.is inv.none
-    (λ e. both_ways _ c.loop-slot-test.true (c.is_enough.ensures.1 e))))
+    let inv = c.loop-missing.invariant in
+    inl (none_left it c.args.from c.requires.place c.args.frames c.args.limit c.loop-missing.missing c.loop-missing.slot inv.sought
+    (inv.some c.loop-missing-test.true) c.if-slot-missing.true)
 
-pub loop-slot-preserved : goal.loop-slot-preserved
-loop-slot-preserved c =
+pub returns-in-Err-clause-why : goal.returns-in-Err-clause-why
+returns-in-Err-clause-why c =
+    none_behind c.args.self.now c.args.from c.args.frames c.args.limit c.loop-missing.slot c.in-Err.why c.loop-missing.invariant.sought
+    c.in-Err.ensures.why
+
+pub returns-clause-enough : goal.returns-clause-enough
+returns-clause-enough c = (let no = c.loop-missing-test.false in c.loop-missing.invariant.none (omega (arith, no)))
+
+pub loop-missing-preserved : goal.loop-missing-preserved
+loop-missing-preserved c =
     let it = c.args.self.now in
-    let inv = c.loop-slot.invariant in
+    let inv = c.loop-missing.invariant in
     let told = c.in-Ok.ensures in
-    sought_next it c.args.from c.args.frames c.args.limit c.in-Ok.at c.loop-slot.slot inv
-    (λ e. both_ways _ c.loop-slot-test.true (c.is_enough.ensures.1 e)) c.if-slot-limit.false told.slot told.later told.near
+    record {
+      sought = sought_on it c.args.from c.requires.place c.args.frames c.args.limit c.loop-missing.missing c.loop-missing.slot c.in-Ok.next
+          inv.sought told.slot (inv.some c.loop-missing-test.true) c.if-slot-missing.false told.near;
+      none = c.missing-missing-in-loop-missing.ensures.none;
+      some = c.missing-missing-in-loop-missing.ensures.some;
+      few = c.missing-missing-in-loop-missing.ensures.few;
+    }
