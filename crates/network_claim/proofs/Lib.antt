@@ -1,0 +1,10 @@
+mod Apart
+mod Lengths
+mod Moved
+mod WindowLaws
+mod CurveLaws
+mod PriorityLaws
+mod NetworkLaws
+mod NetworkRuns
+mod CycleLaws
+mod Example
