@@ -4,7 +4,7 @@ use crate::marks::{Hint, put_hint, span_at};
 use abstract_port::Dropped;
 use answer_text::{Part, WriteFault, dropped_name, put_parts};
 use octet_writer::put;
-use script::{Basis, Missed, Sharers};
+use script::{Basis, Missed, Sharers, Shares};
 use std::io::Write;
 
 /// The ids of the frames of a stream, and the number of its line in a table.
@@ -161,9 +161,33 @@ pub fn put_busy_class<W: Write>(
     )
 }
 
-/// Writes with which classes a class shares windows, and what may be in its way.
+/// Writes what the greatest wait of a stream of this id is made of.
+fn put_shares<W: Write>(writer: &mut W, id: u64, shares: Shares) -> Result<(), WriteFault> {
+    put_parts(
+        writer,
+        &[
+            Part::Text(b"    stream "),
+            Part::Number(u128::from(id)),
+            Part::Text(b" waits the longest: by its gates "),
+            Part::Number(shares.gates),
+            Part::Text(b", behind a lower class "),
+            Part::Number(shares.blocking),
+            Part::Text(b", behind higher ones "),
+            Part::Number(shares.higher),
+            Part::Text(b", in its own queue "),
+            Part::Number(shares.queue),
+            Part::Text(b"\n"),
+        ],
+    )
+}
+
+/// Writes with which classes a class shares windows, what may be in its way, and what its longest wait is made of.
 fn put_sharers<W: Write>(writer: &mut W, sharers: Sharers) -> Result<(), WriteFault> {
-    put(writer, b" beside")?;
+    if sharers.classes.iter().filter(|is| **is).count() == 1 {
+        put(writer, b" beside class")?;
+    } else {
+        put(writer, b" beside classes")?;
+    }
     for class in 0..8u8 {
         if sharers.classes[class as usize] {
             put_parts(writer, &[Part::Text(b" "), Part::Number(u128::from(class))])?;
@@ -178,7 +202,11 @@ fn put_sharers<W: Write>(writer: &mut W, sharers: Sharers) -> Result<(), WriteFa
             Part::Number(sharers.blocking),
             Part::Text(b"\n"),
         ],
-    )
+    )?;
+    match sharers.longest {
+        Some((id, shares)) => put_shares(writer, id, shares),
+        None => Ok(()),
+    }
 }
 
 /// For which frames the bounds of a class are found, and the premise that is the weakest.

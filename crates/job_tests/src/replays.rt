@@ -1,6 +1,6 @@
 //! Two frames, and what comes out.
 
-use abstract_port::Dropped;
+use abstract_port::{Command, Dropped};
 use job::{Ended, say_fault};
 use replay::{ReplayFault, ReplayInput, Stamp, replay};
 use script::{Basis, Failure, Missed, Settings, Unwatched, Watch};
@@ -180,6 +180,8 @@ impl Watch for Seen {
     fn line_skipped(&mut self, _number: u32, _line: &[u8]) {}
 
     fn line_passed(&mut self, _number: u32, _line: &[u8]) {}
+
+    fn command_read(&mut self, _number: u32, _line: &[u8], _command: &Command) {}
 
     fn class_is_busy(&mut self, _number: u32, _class: u8, _every: u128) {}
 

@@ -4,12 +4,12 @@
 use crate::job_name::JobName;
 use crate::progress::Progress;
 use crate::stream_ids::{StreamIds, ids_of};
-use abstract_port::Dropped;
+use abstract_port::{Command, Dropped};
 use arrayvec::ArrayVec;
 use hints::{
     put_basis, put_busy_class, put_comment, put_end_without, put_failure, put_fault_hint,
-    put_frame_dropped, put_frames_left, put_missed, put_no_command, put_no_frame, put_none_judged,
-    put_shared_ids,
+    put_frame_dropped, put_frames_left, put_linux, put_missed, put_no_command, put_no_frame,
+    put_none_judged, put_shared_ids,
 };
 use job::{CaptureKind, Ended, Errors, FaultKind};
 use octet_writer::put;
@@ -127,6 +127,7 @@ pub(crate) struct Onlooker<'a, 'b, C: Clock, P: Write + Drop, E: Write> {
     looks: Looks,
     failures: u32,
     comments: u32,
+    schedule: Option<u32>,
     found: bool,
     has_frames: bool,
     came: bool,
@@ -158,6 +159,7 @@ impl<'a, 'b, C: Clock, P: Write + Drop, E: Write> Onlooker<'a, 'b, C, P, E> {
             looks,
             failures: 0,
             comments: 0,
+            schedule: None,
             found: false,
             has_frames: false,
             came: false,
@@ -315,6 +317,18 @@ impl<C: Clock, P: Write + Drop, E: Write> Watch for Onlooker<'_, '_, C, P, E> {
             let _ = put_failure(self.errors, number, line, why, explain);
             let _ = self.errors.flush();
         }
+    }
+
+    fn command_read(&mut self, number: u32, line: &[u8], command: &Command) {
+        if self.looks.explain && self.comments < EXPLAINED {
+            self.comments += 1;
+            let _ = put_linux(self.errors, number, line, command, self.schedule);
+            let _ = self.errors.flush();
+        }
+        self.schedule = match command {
+            Command::Replace(_) => Some(number),
+            Command::Delete => None,
+        };
     }
 
     fn frame_dropped(&mut self, moment: u128, frame: &Frame, why: Dropped) {

@@ -1,6 +1,6 @@
 //! What is reported of a schedule command.
 
-ghost use Rattle.std.specs.Prelude.{◌≡◌, ◌<◌, ◌≤◌, ◌+◌, ◌++◌, ℕ, List, None, Ok, Result};
+ghost use Rattle.std.specs.Prelude.{◌≡◌, ◌<◌, ◌≤◌, ◌+◌, ◌++◌, ℕ, List, None, Ok, Result, []};
 ghost use Rattle.abstract_port.specs.declared.Command.TheVariants.{Replace};
 ghost use Rattle.schedule_check.specs.Alerts.{alert_of, first_never, line_wrong, never_opens, wrong_with};
 ghost use Rattle.schedule_check.specs.Words.{array_vec_len, apart_line, change_lines, class_count, classes_apart, itself_apart, some_line, verdict_lines, IsTeller, Teller, Writes, plan_asked, Command, plan_fault, IsReader, TcFault, CLASSES, words_of, alone, in_ps, open_total};
@@ -197,8 +197,17 @@ fn put_verdict<W: Write, H: Watch>(
     }
 }
 
-/// Writes what is reported of the line of this number, which begins with `tc`, by settings. Who watches is called where
-/// it is no command, where a port would refuse it, and where it never opens a class that a priority leads to. At a fault
+/// Tells who watches which command the line of this number is, if it is one.
+fn tell_read<H: Watch>(number: u32, line: &[u8], read: &Result<Command, TcFault>, watch: &mut H)
+    ensures { H.alerted [] watch.old watch.new }
+{
+    if let Ok(command) = read {
+        watch.command_read(number, line, command);
+    }
+}
+
+/// Writes what is reported of the line of this number, which begins with `tc`, by settings. Who watches is told which
+/// command it is, and is called where it is none, where a port would refuse it, and where it never opens a class that a priority leads to. At a fault
 /// a prefix of that is written.
 pub(crate) fn put_line<W: Write, H: Watch>(
     writer: &mut W,
@@ -212,5 +221,7 @@ pub(crate) fn put_line<W: Write, H: Watch>(
     ensures alerts { (read : List (List ℕ) → Result Command TcFault) → IsReader read →
         H.alerted (alert_of (line_wrong settings.now (read (words_of line.now)))) watch.old watch.new }
 {
-    put_verdict(writer, settings, number, line, read_tc(line), watch)
+    let read = read_tc(line);
+    tell_read(number, line, &read, watch);
+    put_verdict(writer, settings, number, line, read, watch)
 }

@@ -3,7 +3,7 @@
 ghost use Rattle.std.specs.Prelude.{◌∷◌, ◌++◌, [], List};
 ghost use Rattle.script.specs.Alerts.{Alert, Failed, Judged, Left, Lost, Passed, Stream};
 
-use abstract_port::{Dropped, Refused};
+use abstract_port::{Command, Dropped, Refused};
 use tc_reader::TcFault;
 use wire_time::Frame;
 
@@ -29,6 +29,19 @@ pub enum Missed {
     Left,
 }
 
+/// What the greatest wait of a stream is made of, in picoseconds: it is the sum of the four.
+#[derive(Clone, Copy, Debug, PartialEq, Eq)]
+pub struct Shares {
+    /// What it would be if nothing else was sent: by shut gates, and by the stream's own jitter and frames.
+    pub gates: u128,
+    /// What is added by a frame of a lower class, which is in the way.
+    pub blocking: u128,
+    /// What is added by the frames of higher classes.
+    pub higher: u128,
+    /// What is added by the other streams of its class.
+    pub queue: u128,
+}
+
 /// With which classes a class shares windows.
 #[derive(Clone, Copy, Debug, PartialEq, Eq)]
 pub struct Sharers {
@@ -38,6 +51,8 @@ pub struct Sharers {
     pub entry: u32,
     /// For how long a frame of another class may be in the way, in picoseconds.
     pub blocking: u128,
+    /// Of the stream that waits the longest its first id, and what its greatest wait is made of, where that is known.
+    pub longest: Option<(u64, Shares)>,
 }
 
 /// By what the bounds of a class are found.
@@ -71,6 +86,10 @@ pub trait Watch {
     /// The line of this number, whose text this is, begins with `tc`, and this is wrong with it. The run goes on.
     fn command_failed(&mut self, number: u32, line: &[u8], why: Failure)
         ensures { alerted (Failed why ∷ []) self.old self.new };
+
+    /// The line of this number, whose text this is, is judged by itself, and is this command.
+    fn command_read(&mut self, number: u32, line: &[u8], command: &Command)
+        ensures { alerted [] self.old self.new };
 
     /// This frame, which comes at this moment, in picoseconds, is dropped for this reason.
     fn frame_dropped(&mut self, moment: u128, frame: &Frame, why: Dropped)
@@ -143,6 +162,8 @@ impl Watch for Unwatched {
     fn records_taken(&mut self, _records: u32, _moment: u128) {}
 
     fn command_failed(&mut self, _number: u32, _line: &[u8], _why: Failure) {}
+
+    fn command_read(&mut self, _number: u32, _line: &[u8], _command: &Command) {}
 
     fn frame_dropped(&mut self, _moment: u128, _frame: &Frame, _why: Dropped) {}
 
