@@ -11,7 +11,7 @@ _taprio_port() {
         replay) words='--rate --mtu --room --until --stamp --summary --progress --strict --strict-frames --explain --help' values='--rate --mtu --room --until --stamp' ;;
         check) words='--rate --mtu --map --shares --windows --frame --script --strict --explain --help' values='--rate --mtu --map --frame' ;;
         streams) words='--with --from --late --seed --strict --explain --help' values='--with --from --seed' ;;
-        bounds) words='--rate --mtu --room --map --frames --silent --leftovers --slack --strict --explain --help' values='--rate --mtu --room --map --frames --silent' ;;
+        bounds) words='--rate --mtu --room --map --frames --silent --leftovers --slack --why --strict --explain --help' values='--rate --mtu --room --map --frames --silent' ;;
         draw) words='--rate --mtu --room --until --from --to --width --strict --explain --help' values='--rate --mtu --room --until --from --to --width' ;;
         frames) words='--rate --mtu --room --until --capture --by-stream --strict --explain --help' values='--rate --mtu --room --until --capture --by-stream' ;;
         *) return ;;

@@ -52,6 +52,7 @@ complete -c taprio_port -n '__fish_seen_subcommand_from bounds' -l frames -x -d 
 complete -c taprio_port -n '__fish_seen_subcommand_from bounds' -l silent -x -d 'Take it for granted that these classes send nothing, where they have no streams: classes with commas, 6,7'
 complete -c taprio_port -n '__fish_seen_subcommand_from bounds' -l leftovers -d 'Allow for frames of other classes that wait from before the schedule, but of silent ones'
 complete -c taprio_port -n '__fish_seen_subcommand_from bounds' -l slack -d 'Report the greatest jitter with which each stream still makes its deadline'
+complete -c taprio_port -n '__fish_seen_subcommand_from bounds' -l why -d 'Report what the greatest wait of each stream is made of: gates, lower classes, higher ones, its own queue'
 complete -c taprio_port -n '__fish_seen_subcommand_from bounds' -l strict -d 'End with status 1 where a deadline is missed or unknown, frames are lost, a command is refused, or nothing is judged'
 complete -c taprio_port -n '__fish_seen_subcommand_from bounds' -l explain -d 'Report with a fault its line and what was expected, also where standard error is no terminal'
 complete -c taprio_port -n '__fish_seen_subcommand_from bounds' -l help -d 'Print help'

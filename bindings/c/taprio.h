@@ -193,9 +193,10 @@ void taprio_bounds_slack(const struct taprio_port_values *values, uint64_t frame
 /* What is asked of taprio_bounds_asked, with `|` between them; 0: nothing. */
 #define TAPRIO_SLACK 1u     /* the line of taprio_bounds_slack behind that of each stream with a deadline */
 #define TAPRIO_LEFTOVERS 2u /* frames of other classes may wait from before the schedule, but of silent ones */
+#define TAPRIO_WHY 4u       /* a line behind that of each stream with a greatest wait: what that is made of, as `--why` reports it */
 #define TAPRIO_SILENT(traffic_class) (256u << (traffic_class)) /* a class, 0 to 7, sends nothing where it has no streams */
 
-/* The same, as `--slack`, `--leftovers` and `--silent` ask it; other bits of `asked` change nothing. Where a class is said to be silent,
+/* The same, as `--slack`, `--leftovers`, `--why` and `--silent` ask it; other bits of `asked` change nothing. Where a class is said to be silent,
  * a line behind that of the classes that are kept apart tells which of these have no streams. taprio_bounds is this call with 0, and
  * taprio_bounds_slack with TAPRIO_SLACK. */
 void taprio_bounds_asked(const struct taprio_port_values *values, uint64_t frames, uint32_t asked, const uint8_t *table,

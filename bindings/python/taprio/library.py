@@ -363,6 +363,7 @@ def bounds(
     slack: bool = False,
     silent: Iterable[int] = (),
     leftovers: bool = False,
+    why: bool = False,
 ) -> bytes:
     """Tells for each schedule command how long the frames of a table of streams wait, for ever: the classes that it keeps apart, the
     verdict about each class that has streams, and the least and the greatest wait of each stream, with whether its deadline is met.
@@ -370,15 +371,15 @@ def bounds(
     `rate`, `mtu` and `room` are those of `run`; `frames`, 1 to 1,000,000,000, is how many frames of a class are looked at, at most. With
     `slack` it is also told how much jitter each stream with a deadline may have. The classes in `silent` send nothing, where they have no
     streams in the table, and it is told which these are; with `leftovers` frames of other classes may wait from before the
-    schedule, but of silent ones. A deadline that is missed is no fault. `taprio.read_bounds` reads what is told, and `taprio.bounds` does both.
+    schedule, but of silent ones. With `why` it is also told what the greatest wait of each stream is made of. A deadline that is missed is no fault. `taprio.read_bounds` reads what is told, and `taprio.bounds` does both.
     """
     table, schedules, classes = octets(table), octets(schedules), silent_classes(silent)
     port = ctypes.byref(_port(rate, mtu, room, None, False))
     limit, texts = number(frames, 64, "frames"), [table, len(table), schedules, len(schedules)]
     guess = 4 * (len(table) + len(schedules)) + 4096
-    if not classes and not leftovers:
+    if not classes and not leftovers and not why:
         return _one("taprio_bounds_slack" if slack else "taprio_bounds", [port, limit, *texts], guess)
-    asked = bool(slack) + 2 * bool(leftovers) + sum(256 << it for it in classes)
+    asked = bool(slack) + 2 * bool(leftovers) + 4 * bool(why) + sum(256 << it for it in classes)
     return _one("taprio_bounds_asked", [port, limit, asked, *texts], guess)
 
 

@@ -59,9 +59,11 @@ class Backend(Protocol):
         slack: bool = False,
         silent: Iterable[int] = (),
         leftovers: bool = False,
+        why: bool = False,
     ) -> bytes:
-        """How long the frames of a table wait under each schedule, for ever; with `slack` also how much jitter each stream may have. The
-        classes in `silent` send nothing, and with `leftovers` frames may wait from before the schedule."""
+        """How long the frames of a table wait under each schedule, for ever; with `slack` also how much jitter each stream may have, and
+        with `why` what its greatest wait is made of. The classes in `silent` send nothing, and with `leftovers` frames may wait from
+        before the schedule."""
 
     def draw(
         self,
@@ -193,12 +195,13 @@ class Program:
         slack: bool = False,
         silent: Iterable[int] = (),
         leftovers: bool = False,
+        why: bool = False,
     ) -> bytes:
         """Tells how long the frames of a table wait under each schedule, as `taprio.library.bounds` does."""
         table, schedules, classes = octets(table), octets(schedules), silent_classes(silent)
         words = ["bounds", *self._port(rate, mtu, room, None, False), "--frames", str(number(frames, 64, "frames"))]
         words += ["--silent", ",".join(map(str, classes))] if classes else []
-        words += [*(["--leftovers"] if leftovers else []), *(["--slack"] if slack else [])]
+        words += [*(["--leftovers"] if leftovers else []), *(["--slack"] if slack else []), *(["--why"] if why else [])]
         return self._with_file([*words, "table"], "table", table, schedules)
 
     def draw(

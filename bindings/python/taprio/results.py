@@ -408,6 +408,15 @@ class StreamBound:
     """Whether each frame has left by its deadline; None where that isn't known, or there is no deadline."""
     slack: int | None = None
     """Where slack is asked, the greatest jitter with which it makes its deadline, in picoseconds; None where it makes it with none."""
+    gates: int | None = None
+    """Where it is asked, what its greatest wait would be if nothing else was sent, by shut gates and its own jitter and frames. The four parts
+    of it come to its greatest wait; they are None where it has none."""
+    blocking: int | None = None
+    """What is added by a frame of a lower class, which is in the way."""
+    higher: int | None = None
+    """What is added by the frames of higher classes."""
+    queue: int | None = None
+    """What is added by the other streams of its class."""
 
 
 @dataclasses.dataclass(frozen=True)
@@ -810,6 +819,7 @@ _BOUND = re.compile(
 
 _SILENT = re.compile(r"silent((?: \d)*)")
 _SLACK = re.compile(r"slack (\d+) (?:none|jitter (\d+))")
+_WHY = re.compile(r"why (\d+) gates (\d+) blocking (\d+) higher (\d+) queue (\d+)")
 
 
 def _number(text: str | None) -> int | None:
@@ -856,7 +866,7 @@ def read_bounds(answers: Octets) -> Bounds:
     """What bounds tell of each schedule. A text that no bounds write raises `BadAnswer`."""
     found: list[Bounded] = []
     for number, line in enumerate(octets(answers).decode("utf-8", "replace").splitlines(), 1):
-        apart, silent, verdict, bound, slack = (form.fullmatch(line) for form in (_APART, _SILENT, _CLASS, _BOUND, _SLACK))
+        apart, silent, verdict, bound, slack, why = (form.fullmatch(line) for form in (_APART, _SILENT, _CLASS, _BOUND, _SLACK, _WHY))
         last = found[-1] if found and found[-1].apart is not None else None
         if apart:
             found.append(Bounded(() if apart[1] == "none" else _classes(apart[1])))
@@ -868,6 +878,10 @@ def read_bounds(answers: Octets) -> Bounds:
             found[-1] = dataclasses.replace(last, streams=(*last.streams, _bound(bound)))
         elif slack and last and last.streams and last.streams[-1].first_id == int(slack[1]):
             stream = dataclasses.replace(last.streams[-1], slack=_number(slack[2]))
+            found[-1] = dataclasses.replace(last, streams=(*last.streams[:-1], stream))
+        elif why and last and last.streams and last.streams[-1].first_id == int(why[1]):
+            parts = zip(("gates", "blocking", "higher", "queue"), map(int, why.groups()[1:]))
+            stream = dataclasses.replace(last.streams[-1], **dict(parts))
             found[-1] = dataclasses.replace(last, streams=(*last.streams[:-1], stream))
         else:
             answer = _answer(line, number)

@@ -171,6 +171,7 @@ def bounds(
     slack: bool = False,
     silent: Iterable[int] = (),
     leftovers: bool = False,
+    why: bool = False,
     port: Chosen = None,
 ) -> Bounds:
     """How long the frames of periodic streams wait under a schedule, for ever: the least and the greatest wait of each stream, and whether
@@ -185,7 +186,8 @@ def bounds(
     `schedule` may also be `tc` lines, each of which is judged by itself, and `streams` a table. The offsets of the streams count from the
     moment at which the schedule comes into force, and each stream goes on for ever: its `count` is no matter, and a period of 0 raises
     `BadInput`. `rate` is in Mb/s, `mtu` in octets, `room` in frames of a class, and `frames`, 1 to 1,000,000,000, is how many frames of a
-    class are looked at, at most. With `slack` each stream with a deadline also has the greatest jitter with which it still makes it. What
-    runs it is `port`, as `taprio.backend` says. Times of the answer are picoseconds."""
-    told = backend(port).bounds(_table(streams), lines(schedule), rate=rate, mtu=mtu, room=room, frames=frames, slack=slack, silent=silent, leftovers=leftovers)
+    class are looked at, at most. With `slack` each stream with a deadline also has the greatest jitter with which it still makes it, and
+    with `why` each stream with a greatest wait has what that is made of: `gates`, `blocking`, `higher` and `queue`. What runs it is `port`, as `taprio.backend` says. Times of
+    the answer are picoseconds."""
+    told = backend(port).bounds(_table(streams), lines(schedule), rate=rate, mtu=mtu, room=room, frames=frames, slack=slack, silent=silent, leftovers=leftovers, why=why)
     return read_bounds(told)

@@ -490,6 +490,19 @@ class OverTheProgram(Examples, Faults, Room, Bounds, BoundsAsked, Frames, Frames
         self.assertEqual([dataclasses.replace(it, slack=None) for it in told], list(plain))
 
 
+    def test_why(self):
+        """What the greatest waits are made of, and that nothing else changes."""
+        schedule = taprio.Schedule([(0x03, 100_000)], map=(0, 1))
+        streams = [taprio.Stream(1, 1, 60, 15_000, None, 1), taprio.Stream(2, 0, 1514, 1_000_000, None, 1)]
+        told = taprio.bounds(schedule, streams, why=True, port=support.PROGRAM).schedules[0].streams
+        for it in told:
+            self.assertEqual(it.gates + it.blocking + it.higher + it.queue, it.greatest_wait)
+        self.assertEqual([it.higher > 0 for it in told], [False, True])
+        plain = taprio.bounds(schedule, streams, port=support.PROGRAM).schedules[0].streams
+        nothing = {"gates": None, "blocking": None, "higher": None, "queue": None}
+        self.assertEqual([dataclasses.replace(it, **nothing) for it in told], list(plain))
+
+
 class WithoutALibrary(unittest.TestCase):
     def test_what_is_said(self):
         """The error is raised at the first call, and not where the module is loaded; it names the file, and what to do."""

@@ -453,6 +453,10 @@ silent
                 "deadline": 1000,
                 "met": True,
                 "slack": None,
+                "gates": None,
+                "blocking": None,
+                "higher": None,
+                "queue": None,
             },
         )
 

@@ -27,7 +27,7 @@ classes_of mask = opens mask 0 ∷ opens mask 1 ∷ opens mask 2 ∷ opens mask 
 abbrev pub bounds_settings_at : PortValues → ℕ → BoundsAsked → Result BoundsSettings BoundsValue
 bounds_settings_at v frames asked =
     with_port (settings_at v) (Some None) (frames_at frames) (Some (classes_of asked.silent))
-    (record { strict = false; slack = asked.slack; leftovers = asked.leftovers })
+    (record { strict = false; slack = asked.slack; why = asked.why; leftovers = asked.leftovers })
 
 -- a bad value, with status 2 and no output
 abbrev pub refused_bounds : BoundsValue → Told

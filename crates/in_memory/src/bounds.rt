@@ -37,6 +37,8 @@ fn frames_at(frames: u64) -> Option<u64>
 pub struct BoundsAsked {
     /// Whether it is told which jitter the streams with deadlines may have.
     pub slack: bool,
+    /// Whether it is told what the greatest wait of each stream is made of.
+    pub why: bool,
     /// Whether frames may wait from before the schedule, of any class that isn't silent.
     pub leftovers: bool,
     /// The classes that send nothing, where they have no streams: bit N is class N.
@@ -79,6 +81,7 @@ fn bounds_settings_at(
             frames,
             strict: false,
             slack: asked.slack,
+            why: asked.why,
             silent: classes_of(asked.silent),
             leftovers: asked.leftovers,
         }),

@@ -97,7 +97,12 @@ IsGivenStreams (Err value) (Some path) table ended old got errors_old errors_new
 abbrev pub bounds_in : Found → Result BoundsSettings BoundsValue
 bounds_in found =
     bounds_given (words_in found) (first_value found (codes "map")) (first_value found (codes "frames")) (first_value found (codes "silent"))
-    (record { strict = flag_in (codes "strict") found; slack = flag_in (codes "slack") found; leftovers = flag_in (codes "leftovers") found })
+    (record {
+      strict = flag_in (codes "strict") found;
+      slack = flag_in (codes "slack") found;
+      why = flag_in (codes "why") found;
+      leftovers = flag_in (codes "leftovers") found;
+    })
 
 -- The end of a run on schedules and the table that the words name: that of the schedules and of some octets, since what a file gives is not known, or
 -- of the path that can't be opened; or of a value that is bad, which comes first. There is no end where the words name no table: they are refused then.

@@ -52,7 +52,8 @@ rules_of Names.Check =
 rules_of Names.Streams = option (codes "with") ∷ option (codes "from") ∷ flag (codes "late") ∷ option (codes "seed") ∷ flag (codes "strict") ∷ flag (codes "explain") ∷ []
 rules_of Names.Bounds =
     option (codes "rate") ∷ option (codes "mtu") ∷ option (codes "room") ∷ option (codes "map") ∷ option (codes "frames")
-    ∷ option (codes "silent") ∷ flag (codes "leftovers") ∷ flag (codes "slack") ∷ flag (codes "strict") ∷ flag (codes "explain") ∷ file (codes "table") ∷ []
+    ∷ option (codes "silent") ∷ flag (codes "leftovers") ∷ flag (codes "slack") ∷ flag (codes "why") ∷ flag (codes "strict")
+    ∷ flag (codes "explain") ∷ file (codes "table") ∷ []
 rules_of Names.Draw =
     option (codes "rate") ∷ option (codes "mtu") ∷ option (codes "room") ∷ option (codes "until") ∷ option (codes "from")
     ∷ option (codes "to") ∷ option (codes "width") ∷ flag (codes "strict") ∷ flag (codes "explain") ∷ []

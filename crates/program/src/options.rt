@@ -83,6 +83,7 @@ pub(crate) fn bounds_of<'a>(matches: &ArgMatches<'a>) -> BoundsWords<'a>
     ensures frames { octets_of result.frames ≡ first_value (found_of matches.now) (codes "frames") }
     ensures strict { result.strict ≡ flag_in (codes "strict") (found_of matches.now) }
     ensures slack { result.slack ≡ flag_in (codes "slack") (found_of matches.now) }
+    ensures why { result.why ≡ flag_in (codes "why") (found_of matches.now) }
     ensures silent { octets_of result.silent ≡ first_value (found_of matches.now) (codes "silent") }
     ensures leftovers { result.leftovers ≡ flag_in (codes "leftovers") (found_of matches.now) }
 {
@@ -92,6 +93,7 @@ pub(crate) fn bounds_of<'a>(matches: &ArgMatches<'a>) -> BoundsWords<'a>
         frames: matches.get_str("frames"),
         strict: is_given(matches, "strict"),
         slack: is_given(matches, "slack"),
+        why: is_given(matches, "why"),
         silent: matches.get_str("silent"),
         leftovers: is_given(matches, "leftovers"),
     }
@@ -342,6 +344,14 @@ const SLACK: Word = Word {
     without: None,
 };
 
+const WHY: Word = Word {
+    given: Given::Flag,
+    name: "why",
+    value: "",
+    help: "Report what the greatest wait of each stream is made of: gates, lower classes, higher ones, its own queue",
+    without: None,
+};
+
 const SILENT: Word = Word {
     given: Given::Value,
     name: "silent",
@@ -498,7 +508,7 @@ pub(crate) const JOBS: [Job; 7] = [
         name: JobName::Bounds,
         about: "Reports how long the frames of the streams in a table can ever wait, by the schedule commands on standard input",
         words: &[
-            RATE, MTU, ROOM, MAP, FRAMES, SILENT, LEFTOVERS, SLACK, STRICT, EXPLAIN, TABLE,
+            RATE, MTU, ROOM, MAP, FRAMES, SILENT, LEFTOVERS, SLACK, WHY, STRICT, EXPLAIN, TABLE,
         ],
     },
     Job {

@@ -27,7 +27,8 @@ use Rattle.window_bounds.specs.declared.JitteredFlow.{JitteredFlow}
 use Rattle.window_bounds.specs.declared.Unbound.{Unbound as WindowUnbound}
 use Rattle.window_bounds.specs.declared.Unbound.TheVariants as WindowFaults
 use Rattle.stream_bounds.specs.Classes.{jittered_of, most_sdu, talker_of}
-use Rattle.stream_bounds.specs.Verdicts.{AreClassAnswers, AreWindows, ClassAnswer, IsAnswerWith, IsBurst, IsBurstAnswer, IsWindowAnswer, burst_answer, burst_limit, windows_of}
+use Rattle.stream_bounds.specs.Answers.{AreClassAnswers}
+use Rattle.stream_bounds.specs.Verdicts.{AreWindows, ClassAnswer, IsAnswerWith, IsBurst, IsBurstAnswer, IsWindowAnswer, burst_answer, burst_limit, windows_of}
 use Rattle.stream_bounds.specs.declared.settings.BoundsSettings.{BoundsSettings}
 use Rattle.traffic.specs.declared.table.Stream.{Stream}
 

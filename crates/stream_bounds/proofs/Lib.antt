@@ -5,3 +5,4 @@ mod RefusalLaws
 mod AnswerLaws
 mod SharedLaws
 mod SilentLaws
+mod ExtraLaws

@@ -4,7 +4,8 @@ use Rattle.std.proofs.lemmas.List.{at_drop_all, at_drop_more}
 use Rattle.abstract_port.specs.declared.Change.{Change}
 use Rattle.stream_bounds.specs.BoundLines.{bound_lines, class_finding, class_finding_in, class_line, class_lines, flag_text, flag_texts, finding_in, first_of, stream_finding, stream_text}
 use Rattle.stream_bounds.specs.Classes.{class_of}
-use Rattle.stream_bounds.specs.Verdicts.{ClassAnswer, answer_at, left_after, needs_of, next_delay, slack_of}
+use Rattle.stream_bounds.specs.Verdicts.{ClassAnswer, answer_at, extra_of, left_after, needs_of, next_delay}
+use Rattle.stream_bounds.specs.declared.extras.Extra.{Extra}
 use Rattle.stream_bounds.specs.declared.faults.Finding.{Finding}
 use Rattle.stream_bounds.specs.declared.settings.BoundsSettings.{BoundsSettings}
 use Rattle.stream_bounds.specs.declared.verdicts.Delay.{Delay}
@@ -75,7 +76,7 @@ module _ (answers : List ClassAnswer) where
 
 module _ (s : BoundsSettings) (c : Change) where
   one_line : (answers : List ClassAnswer) (x : Stream) (xs : List Stream) → bound_lines s c answers (x ∷ xs)
-      ≡ stream_text s.slack (needs_of s.port.rate x) x (next_delay s c answers x) (slack_of answers (class_of s c x))
+      ≡ stream_text s.slack (needs_of s.port.rate x) x (next_delay s c answers x) (extra_of answers (class_of s c x))
       ++ bound_lines s c (left_after answers (class_of s c x)) xs
   unfolding bound_lines
   one_line answers x xs = refl
@@ -97,26 +98,26 @@ module _ (s : BoundsSettings) (c : Change) where
   pub stream_more : (answers : List ClassAnswer) (xs : List Stream) (i : ℕ) (d : Stream) → i < length xs
       → bound_lines s c answers (drop i xs)
       ≡ stream_text s.slack (needs_of s.port.rate (get_or xs i d)) (get_or xs i d) (next_delay s c answers (get_or xs i d))
-      (slack_of answers (class_of s c (get_or xs i d))) ++ bound_lines s c (left_after answers (class_of s c (get_or xs i d))) (drop (i + 1) xs)
+      (extra_of answers (class_of s c (get_or xs i d))) ++ bound_lines s c (left_after answers (class_of s c (get_or xs i d))) (drop (i + 1) xs)
   stream_more answers xs i d less = at_drop_more (bound_lines s c answers) xs i d less ∙ one_line answers (get_or xs i d) (drop (i + 1) xs)
 
   pub stream_end : (answers : List ClassAnswer) (xs : List Stream) (i : ℕ) → length xs ≤ i → bound_lines s c answers (drop i xs) ≡ []
   stream_end answers xs i over = at_drop_all (bound_lines s c answers) xs i over ∙ no_line answers
 
   -- in the words of the code
-  pub told_more : (answers left : List ClassAnswer) (xs : List Stream) (i : ℕ) (d : Stream) (needs : Needs) (delay : Delay) (slack : Option ℕ)
+  pub told_more : (answers left : List ClassAnswer) (xs : List Stream) (i : ℕ) (d : Stream) (needs : Needs) (delay : Delay) (extra : Extra)
       → i < length xs → needs ≡ needs_of s.port.rate (get_or xs i d) → delay ≡ next_delay s c answers (get_or xs i d)
-      → slack ≡ slack_of answers (class_of s c (get_or xs i d)) → left ≡ left_after answers (class_of s c (get_or xs i d))
-      → bound_lines s c answers (drop i xs) ≡ stream_text s.slack needs (get_or xs i d) delay slack ++ bound_lines s c left (drop (i + 1) xs)
-  told_more answers left xs i d needs delay slack less needs_is delay_is slack_is left_is =
+      → extra ≡ extra_of answers (class_of s c (get_or xs i d)) → left ≡ left_after answers (class_of s c (get_or xs i d))
+      → bound_lines s c answers (drop i xs) ≡ stream_text s.slack needs (get_or xs i d) delay extra ++ bound_lines s c left (drop (i + 1) xs)
+  told_more answers left xs i d needs delay extra less needs_is delay_is extra_is left_is =
       let x : Stream = get_or xs i d in
       let rest : List Stream = drop (i + 1) xs in
       let after : List ClassAnswer = left_after answers (class_of s c x) in
       stream_more answers xs i d less
-      ∙ (ap (λ n. stream_text s.slack n x (next_delay s c answers x) (slack_of answers (class_of s c x)) ++ bound_lines s c after rest) (sym needs_is)
-      ∙ (ap (λ e. stream_text s.slack needs x e (slack_of answers (class_of s c x)) ++ bound_lines s c after rest) (sym delay_is)
-      ∙ (ap (λ j. stream_text s.slack needs x delay j ++ bound_lines s c after rest) (sym slack_is)
-      ∙ ap (λ l. stream_text s.slack needs x delay slack ++ bound_lines s c l rest) (sym left_is))))
+      ∙ (ap (λ n. stream_text s.slack n x (next_delay s c answers x) (extra_of answers (class_of s c x)) ++ bound_lines s c after rest) (sym needs_is)
+      ∙ (ap (λ e. stream_text s.slack needs x e (extra_of answers (class_of s c x)) ++ bound_lines s c after rest) (sym delay_is)
+      ∙ (ap (λ j. stream_text s.slack needs x delay j ++ bound_lines s c after rest) (sym extra_is)
+      ∙ ap (λ l. stream_text s.slack needs x delay extra ++ bound_lines s c l rest) (sym left_is))))
 
   -- its finding
   pub finding_more : (answers : List ClassAnswer) (xs : List Stream) (i : ℕ) (d : Stream) (first all : Option Finding) → i < length xs

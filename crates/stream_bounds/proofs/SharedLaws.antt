@@ -18,7 +18,8 @@ use Rattle.shared_bounds.specs.declared.Unbound.TheVariants.{Blocked, Long, Memo
 use Rattle.stream_bounds.specs.Classes.{most_sdu, streams_of, talker_of}
 use Rattle.stream_bounds.specs.Shared.{AreBeside, AreBesideFrom, AreOpen, IsHighest, IsBesideAt, IsShared, need_beside, streams_beside, widest}
 use Rattle.stream_bounds.specs.Standing.{standing_of}
-use Rattle.stream_bounds.specs.Verdicts.{AreAnswersFrom, ClassAnswer, IsAnswerUnless, IsClassAnswer, IsBoundedAnswer, IsSharedAnswer, burst_limit, shared_answer, standings_of}
+use Rattle.stream_bounds.specs.Answers.{AreAnswersFrom, IsClassAnswer, standings_of}
+use Rattle.stream_bounds.specs.Verdicts.{ClassAnswer, IsAnswerUnless, IsBoundedAnswer, IsSharedAnswer, burst_limit, shared_answer}
 use Rattle.stream_bounds.specs.declared.settings.BoundsSettings.{BoundsSettings}
 use Rattle.stream_bounds.specs.declared.standing.Standing.{Standing}
 use Rattle.traffic.specs.declared.table.Stream.{Stream}
@@ -92,7 +93,7 @@ module _ (s : BoundsSettings) (c : Change) (table : List Stream) (above : List S
 
 -- what the bounds of a class that shares its windows tell
 told_is : (plan : Plan) (class limit : ℕ) (traffic : List ClassTraffic) (told : Result Bounds Unbound)
-    → IfOk told (λ b. AreLeastOf plan class traffic b.wait b.most) → IfErr told (IsUnbound plan class traffic limit)
+    → IfOk told (λ b. AreLeastOf plan class traffic limit b.wait b.most) → IfErr told (IsUnbound plan class traffic limit)
     → told ≢ Err Memory → IsShared plan class traffic limit told
 told_is plan class limit traffic (Ok b) least why known = least
 told_is plan class limit traffic (Err Stuck) least why known = why
@@ -104,7 +105,7 @@ told_is plan class limit traffic (Err Memory) least why known = known refl
 pub if_shared : (s : BoundsSettings) (c : Change) (table : List Stream) (above : List Standing) (streams : List Stream) (class : ℕ)
     (plan : Plan) (limit : ℕ) (traffic : List ClassTraffic) (told : Result Bounds Unbound) {F : Type 0} (result : Result ClassAnswer F)
     → plan ≡ plan_asked c → limit ≡ burst_limit s → AreBeside s c table above streams class traffic
-    → IfOk told (λ b. AreLeastOf plan class traffic b.wait b.most) → IfErr told (IsUnbound plan class traffic (limit + 1))
+    → IfOk told (λ b. AreLeastOf plan class traffic (limit + 1) b.wait b.most) → IfErr told (IsUnbound plan class traffic (limit + 1))
     → IfOk result (λ a. told ≢ Err Memory) → IfOk result (λ a. a ≡ shared_answer s.port.room streams told)
     → IfOk result (λ a. IsBoundedAnswer s c table above streams class a)
 if_shared s c table above streams class plan limit traffic told (Ok answer) plan_is limit_is beside least why known answered = record {

@@ -1,5 +1,5 @@
 -- The lines of a schedule's bounds. Times are in picoseconds.
-use Rattle.std.specs.Prelude.{ℕ, ◌≡◌, ◌+◌, zero, suc, ◌||◌, ◌&&◌, not, Bool, true, false, List, [], ◌∷◌, ◌++◌, slice_index_or, Option, Some, None, Result, Ok, Err, decimal, codes, if◌then◌else◌}
+use Rattle.std.specs.Prelude.{ℕ, ◌≡◌, ◌+◌, zero, suc, ◌||◌, Bool, true, false, List, [], ◌∷◌, ◌++◌, slice_index_or, Option, Some, None, Result, Ok, Err, decimal, codes, if◌then◌else◌}
 use Rattle.std.specs.List.{concat, list_any}
 use Rattle.answer_text.specs.Names.{dropped_name}
 use Rattle.abstract_port.specs.AbstractPort.{plan_asked}
@@ -11,9 +11,10 @@ use Rattle.answer_text.specs.Lines.{refused_line, tc_fault_line}
 use Rattle.schedule_check.specs.Apart.{apart_line, class_count, classes_apart}
 use Rattle.schedule_check.specs.Refusals.{map_after}
 use Rattle.delay_bounds.specs.declared.Bound.{Bound}
-use Rattle.stream_bounds.specs.Classes.{class_of, is_class, refusal_of}
-use Rattle.stream_bounds.specs.Standing.{is_said}
-use Rattle.stream_bounds.specs.Verdicts.{AreClassAnswers, ClassAnswer, answer_at, left_after, met_by, needs_of, next_delay, plus, slack_of}
+use Rattle.stream_bounds.specs.Classes.{class_of, refusal_of}
+use Rattle.stream_bounds.specs.Answers.{AreClassAnswers, is_silent}
+use Rattle.stream_bounds.specs.Verdicts.{ClassAnswer, answer_at, extra_of, left_after, met_by, needs_of, next_delay, plus}
+use Rattle.stream_bounds.specs.declared.extras.Extra.{Extra}
 use Rattle.stream_bounds.specs.declared.faults.Answered.{Answered}
 use Rattle.stream_bounds.specs.declared.faults.Finding.{Finding}
 use Rattle.stream_bounds.specs.declared.faults.Finding.TheVariants as Findings
@@ -26,6 +27,7 @@ use Rattle.stream_bounds.specs.declared.verdicts.Needs.{Needs}
 use Rattle.stream_bounds.specs.declared.verdicts.Place.{Place}
 use Rattle.stream_bounds.specs.declared.verdicts.Verdict.{Verdict}
 use Rattle.stream_bounds.specs.declared.verdicts.Verdict.TheVariants as Verdicts
+use Rattle.script.specs.declared.watch.Shares.{Shares}
 use Rattle.tc_reader.specs.declared.fault.TcFault.{TcFault}
 use Rattle.traffic.specs.declared.table.Stream.{Stream}
 
@@ -176,26 +178,37 @@ slack_line false id deadline slack = []
 slack_line true id None slack = []
 slack_line true id (Some deadline) slack = slack_head id ++ slack_end slack
 
--- both lines of a stream
-abbrev pub stream_text : Bool → Needs → Stream → Delay → Option ℕ → List ℕ
-stream_text asked needs x delay slack = bound_line needs x delay ++ slack_line asked x.first_id x.deadline slack
+-- what the greatest wait of a stream is made of
+abbrev pub shares_line : ℕ → Shares → List ℕ
+shares_line id made = concat (
+    codes "why " ∷ decimal id
+    ∷ codes " gates " ∷ decimal made.gates
+    ∷ codes " blocking " ∷ decimal made.blocking
+    ∷ codes " higher " ∷ decimal made.higher
+    ∷ codes " queue " ∷ decimal made.queue
+    ∷ codes "\n" ∷ [])
+
+-- where it is told
+abbrev pub why_line : ℕ → Option Shares → List ℕ
+why_line id None = []
+why_line id (Some made) = shares_line id made
+
+-- what is told beside the bounds of a stream
+abbrev pub extra_lines : Bool → Stream → Extra → List ℕ
+extra_lines asked x extra = slack_line asked x.first_id x.deadline extra.slack ++ why_line x.first_id extra.shares
+
+-- all lines of a stream
+abbrev pub stream_text : Bool → Needs → Stream → Delay → Extra → List ℕ
+stream_text asked needs x delay extra = bound_line needs x delay ++ extra_lines asked x extra
 
 -- the lines of streams, by the answers that are still to be told
 unfoldable pub bound_lines : BoundsSettings → Change → List ClassAnswer → List Stream → List ℕ
 bound_lines s c answers [] = []
 bound_lines s c answers (x ∷ xs) =
-    stream_text s.slack (needs_of s.port.rate x) x (next_delay s c answers x) (slack_of answers (class_of s c x))
+    stream_text s.slack (needs_of s.port.rate x) x (next_delay s c answers x) (extra_of answers (class_of s c x))
     ++ bound_lines s c (left_after answers (class_of s c x)) xs
 
 -- 3. Commands
-
--- whether a stream of a table is of a class
-abbrev pub has_stream : BoundsSettings → Change → List Stream → ℕ → Bool
-has_stream s c streams class = list_any (λ x. is_class class (class_of s c x)) streams
-
--- whether it is taken for granted that a class sends nothing: so it is said, and it has no streams
-abbrev pub is_silent : BoundsSettings → Change → List Stream → ℕ → Bool
-is_silent s c streams class = is_said s class && not (has_stream s c streams class)
 
 -- of each of the eight classes
 abbrev pub silent_classes : BoundsSettings → Change → List Stream → List Bool

@@ -65,17 +65,18 @@ abbrev pub where_silent : Option (List ℕ) → Option (List Bool)
 where_silent None = Some no_classes
 where_silent (Some text) = read_classes no_classes false text
 
--- what is asked for: whether the run is strict, whether slack is told, and whether frames may be left from before
+-- what is asked for: whether the run is strict, whether slack and what waits are made of are told, and whether frames may be left from before
 pub record Asked : Type 0 where
   pub strict : Bool
   pub slack : Bool
+  pub why : Bool
   pub leftovers : Bool
 
 -- The settings of a port, the map that it has already, a number of frames, the silent classes, and what is asked for. The first that is bad is
 -- the fault.
 abbrev pub with_silent : Setup → Option ClassMap → ℕ → Option (List Bool) → Asked → Result BoundsSettings BoundsValue
 with_silent port map frames (Some silent) asked =
-    Ok (record { port = port; map = map; frames = frames; strict = asked.strict; slack = asked.slack; silent = silent; leftovers = asked.leftovers })
+    Ok (record { port = port; map = map; frames = frames; strict = asked.strict; slack = asked.slack; why = asked.why; silent = silent; leftovers = asked.leftovers })
 with_silent port map frames None asked = Err Values.Silent
 
 abbrev pub with_frames : Setup → Option ClassMap → (frames : Option ℕ) → (silent : Option (List Bool)) → Asked → Result BoundsSettings BoundsValue

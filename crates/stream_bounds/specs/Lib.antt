@@ -2,6 +2,7 @@ pub mod Classes
 pub mod Standing
 pub mod Shared
 pub mod Verdicts
+pub mod Answers
 pub mod BoundLines
 pub mod Faults
 pub mod Outcome

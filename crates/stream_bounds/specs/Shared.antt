@@ -83,7 +83,7 @@ module _ (s : BoundsSettings) (c : Change) (table : List Stream) (above : List S
 
 -- Of so many slots of a busy time: these bounds are the least, or this is why there are none.
 abbrev pub IsShared : Plan → ℕ → List ClassTraffic → ℕ → Result Bounds Unbound → Type 0
-IsShared plan class traffic limit (Ok b) = AreLeastOf plan class traffic b.wait b.most
+IsShared plan class traffic limit (Ok b) = AreLeastOf plan class traffic limit b.wait b.most
 IsShared plan class traffic limit (Err SharedFaults.Memory) = ⊥
 IsShared plan class traffic limit (Err why) = IsUnbound plan class traffic limit why
 

@@ -16,7 +16,7 @@
 -- For any other traffic (a frame with jitter, or of several lengths) it is what `IsWindowAnswer` says: for each stream the least time, and the least number
 -- of frames, that bound the late run, in which each frame comes as late as it may. What they are worth is the law `any_traffic::periodic_windows`.
 use Rattle.std.specs.List.{list_any}
-use Rattle.std.specs.Prelude.{ℕ, ◌+◌, ◌-◌, ◌^◌, ◌%◌, ◌⊎◌, ◌==◌, ◌≡◌, ◌<◌, length, map, min, nat_le, is_some, ◌&&◌, Bool, true, false, List, [], ◌∷◌, drop, slice_get, slice_set, slice_index_or, Option, Some, None, unwrap_or, Result, Ok, Err, if◌then◌else◌}
+use Rattle.std.specs.Prelude.{ℕ, ◌+◌, ◌-◌, ◌^◌, ◌==◌, ◌≡◌, length, map, min, nat_le, is_some, ◌&&◌, Bool, true, false, List, [], ◌∷◌, drop, slice_get, slice_set, slice_index_or, Option, Some, None, unwrap_or, Result, Ok, Err, if◌then◌else◌}
 use Rattle.gate_list.specs.Gate.{keeps_apart}
 use Rattle.abstract_port.specs.AbstractPort.{plan_asked}
 use Rattle.abstract_port.specs.declared.Change.{Change}
@@ -43,15 +43,14 @@ use Rattle.window_bounds.specs.declared.JitteredFlow.{JitteredFlow}
 use Rattle.window_bounds.specs.declared.Unbound.{Unbound as WindowUnbound}
 use Rattle.window_bounds.specs.declared.Unbound.TheVariants as WindowFaults
 use Rattle.gate_list.specs.Gate.{Plan}
-use Rattle.wire_time.specs.Moment.{greatest_moment}
 use Rattle.wire_time.specs.Wire.{occupancy_of}
-use Rattle.stream_bounds.specs.Classes.{are_any, are_equal, class_of, dropped_of, flow_of, has_any, has_inexact, jittered_of, most_sdu, streams_of, talker_of}
+use Rattle.stream_bounds.specs.Classes.{are_any, are_equal, class_of, dropped_of, flow_of, has_any, has_inexact, jittered_of, most_sdu, talker_of}
 use Rattle.stream_bounds.specs.Shared.{AreBeside, AreOpen, IsHighest, IsShared}
-use Rattle.stream_bounds.specs.Standing.{standing_of}
 use Rattle.shared_bounds.specs.declared.ClassTraffic.{ClassTraffic}
 use Rattle.shared_bounds.specs.declared.Unbound.{Unbound as SharedUnbound}
 use Rattle.shared_bounds.specs.declared.Unbound.TheVariants as SharedFaults
 use Rattle.stream_bounds.specs.declared.standing.Standing.{Standing}
+use Rattle.stream_bounds.specs.declared.extras.Extra.{Extra}
 use Rattle.stream_bounds.specs.declared.settings.BoundsSettings.{BoundsSettings}
 use Rattle.stream_bounds.specs.declared.verdicts.Needs.{Needs}
 use Rattle.stream_bounds.specs.declared.verdicts.Place.{Place}
@@ -92,12 +91,11 @@ verdict_of ids (Err Unbounds.Long) = Verdicts.Long
 verdict_of ids (Err Unbounds.Late) = Verdicts.Late
 verdict_of ids (Err Unbounds.Memory) = Verdicts.Late
 
--- The verdict about a class, and the bounds of its streams that are still to be told. Where it is asked, each stream also has the greatest jitter with
--- which it makes its deadline, if there is one.
+-- The verdict about a class, and the bounds of its streams that are still to be told; and what is told beside them, where it is asked.
 pub record ClassAnswer : Type 0 where
   pub verdict : Verdict
   pub left : List Bound
-  pub slacks : List (Option ℕ)
+  pub extras : List Extra
 
 -- the bounds of an answer
 abbrev pub bounds_of : Result Answer Unbound → List Bound
@@ -106,7 +104,7 @@ bounds_of (Err why) = []
 
 -- a class without bounds
 abbrev pub unbounded : Verdict → ClassAnswer
-unbounded verdict = record { verdict = verdict; left = []; slacks = [] }
+unbounded verdict = record { verdict = verdict; left = []; extras = [] }
 
 -- a class without streams
 abbrev pub idle : ClassAnswer
@@ -114,7 +112,7 @@ idle = unbounded Verdicts.Idle
 
 -- the answer about a class that is kept apart, with these streams
 abbrev pub apart_answer : List Stream → Result Answer Unbound → ClassAnswer
-apart_answer streams told = record { verdict = verdict_of (map (λ x. x.first_id) streams) told; left = bounds_of told; slacks = [] }
+apart_answer streams told = record { verdict = verdict_of (map (λ x. x.first_id) streams) told; left = bounds_of told; extras = [] }
 
 -- by the walk over its flows, where its traffic is exact
 abbrev pub exact_answer : BoundsSettings → Plan → List Stream → ℕ → ClassAnswer
@@ -127,21 +125,25 @@ answer_at answers class = slice_index_or answers class idle
 
 -- the bounds of the next stream of a class are told
 abbrev pub bound_told : ClassAnswer → ClassAnswer
-bound_told a = record { verdict = a.verdict; left = drop 1 a.left; slacks = a.slacks }
+bound_told a = record { verdict = a.verdict; left = drop 1 a.left; extras = a.extras }
 
 abbrev pub one_told : List ClassAnswer → ℕ → List ClassAnswer
 one_told answers class = slice_set answers class (bound_told (answer_at answers class))
 
--- the jitter that it may have
-abbrev pub slack_at : List ClassAnswer → ℕ → Option ℕ
-slack_at answers class = unwrap_or (slice_get (answer_at answers class).slacks 0) None
+-- where nothing else is asked
+abbrev pub no_extra : Extra
+no_extra = record { slack = None; shares = None }
+
+-- what else is told of it
+abbrev pub extra_at : List ClassAnswer → ℕ → Extra
+extra_at answers class = unwrap_or (slice_get (answer_at answers class).extras 0) no_extra
 
 -- it is told
-abbrev pub jitter_told : ClassAnswer → ClassAnswer
-jitter_told a = record { verdict = a.verdict; left = a.left; slacks = drop 1 a.slacks }
+abbrev pub more_told : ClassAnswer → ClassAnswer
+more_told a = record { verdict = a.verdict; left = a.left; extras = drop 1 a.extras }
 
-abbrev pub slack_told : List ClassAnswer → ℕ → List ClassAnswer
-slack_told answers class = slice_set answers class (jitter_told (answer_at answers class))
+abbrev pub extra_told : List ClassAnswer → ℕ → List ClassAnswer
+extra_told answers class = slice_set answers class (more_told (answer_at answers class))
 
 -- 2. A class some of whose frames may come at any moment, by how far apart they come
 
@@ -155,7 +157,7 @@ range_of wait x = record { least = 0; greatest = plus wait (late_by x) }
 
 -- Bounds, where there is room for as many frames as may wait; and whether a frame of each stream may take so long.
 abbrev pub within_room : Bool → ℕ → Bool → List Bound → ClassAnswer
-within_room true most reached bounds = record { verdict = Verdicts.Within most reached; left = bounds; slacks = [] }
+within_room true most reached bounds = record { verdict = Verdicts.Within most reached; left = bounds; extras = [] }
 within_room false most reached bounds = unbounded (Verdicts.Crowded most)
 
 -- the answer about a class with these streams, with room for so many frames
@@ -217,7 +219,7 @@ pub record IsWindowAnswer (s : BoundsSettings) (c : Change) (streams : List Stre
 
 -- bounds, where there is room for as many frames as may wait
 abbrev pub shared_within : Bool → BurstBounds → List Stream → ClassAnswer
-shared_within true b streams = record { verdict = Verdicts.Sharing b; left = map (range_of b.wait) streams; slacks = [] }
+shared_within true b streams = record { verdict = Verdicts.Sharing b; left = map (range_of b.wait) streams; extras = [] }
 shared_within false b streams = unbounded (Verdicts.Crowded b.most)
 
 -- the answer about a class with these streams, with room for so many frames
@@ -314,14 +316,14 @@ unless_dropped (Some why) delay = Delays.Lost why
 abbrev pub next_delay : BoundsSettings → Change → List ClassAnswer → Stream → Delay
 next_delay s c answers x = unless_dropped (dropped_of s c x) (delay_of answers (class_of s c x))
 
--- the jitter that it may have: where its frames are dropped, none
-abbrev pub slack_of : List ClassAnswer → Result ℕ Dropped → Option ℕ
-slack_of answers (Ok class) = slack_at answers class
-slack_of answers (Err why) = None
+-- what else is told of it: where its frames are dropped, nothing
+abbrev pub extra_of : List ClassAnswer → Result ℕ Dropped → Extra
+extra_of answers (Ok class) = extra_at answers class
+extra_of answers (Err why) = no_extra
 
 -- the answers that are left behind it
 abbrev pub left_after : List ClassAnswer → Result ℕ Dropped → List ClassAnswer
-left_after answers (Ok class) = one_told (slack_told answers class) class
+left_after answers (Ok class) = one_told (extra_told answers class) class
 left_after answers (Err why) = answers
 
 -- Where a frame has left by a deadline at the latest, it is met; and else it is missed, if a frame does take so long.
@@ -336,79 +338,3 @@ met_by needs (Delays.Unbounded class) deadline = Mets.Missed
 met_by needs (Delays.Unsettled class) deadline = Mets.Unknown
 met_by needs (Delays.Unknown class) deadline = Mets.Unknown
 met_by needs (Delays.Lost why) deadline = Mets.Missed
-
--- 7. The jitter that a stream may have
-
--- the stream with another jitter
-abbrev pub jittered : Stream → ℕ → Stream
-jittered x j = record x { jitter = j }
-
--- what is told of the stream at a place of its class, by the class's answer
-abbrev pub delay_at : BoundsSettings → Change → Stream → ℕ → ClassAnswer → ℕ → Delay
-delay_at s c x class a place =
-    unless_dropped (dropped_of s c x) (delay_by class a.verdict (unwrap_or (slice_get a.left place) (record { least = 0; greatest = 0 })))
-
-abbrev pub is_met : Met → Bool
-is_met Mets.Met = true
-is_met _ = false
-
--- The stream at a place of its class has this jitter, and all else is as it is: whether its deadline is met by a right answer.
-pub record IsMetWith (s : BoundsSettings) (c : Change) (table : List Stream) (above : List Standing) (streams : List Stream) (class place : ℕ) (x : Stream) (deadline jitter : ℕ) (met : Bool)
-    : Type 0 where
-  pub answer : ClassAnswer
-  pub right : IsOwnAnswer s c table above (slice_set streams place (jittered x jitter)) class answer
-  pub so : met ≡ is_met (met_by (needs_of s.port.rate x) (delay_at s c x class answer place) deadline)
-
--- it isn't met, or the jitter is no moment
-abbrev pub IsOver : BoundsSettings → Change → (table : List Stream) → (above : List Standing) → List Stream → (class place : ℕ) → Stream → (deadline jitter : ℕ) → Type 0
-IsOver s c table above streams class place x deadline jitter = IsMetWith s c table above streams class place x deadline jitter false ⊎ (greatest_moment < jitter)
-
--- A jitter in whole nanoseconds with which the deadline is met, and with one nanosecond more it isn't; or it isn't with none.
-abbrev pub IsSlack : BoundsSettings → Change → (table : List Stream) → (above : List Standing) → List Stream → (class place : ℕ) → Stream → (deadline : ℕ) → Option ℕ → Type 0
-IsSlack s c table above streams class place x deadline None = IsMetWith s c table above streams class place x deadline 0 false
-IsSlack s c table above streams class place x deadline (Some jitter) =
-    IsMetWith s c table above streams class place x deadline jitter true × IsOver s c table above streams class place x deadline (jitter + 1000) × (jitter % 1000 ≡ 0)
-
--- of a stream without a deadline none is told
-abbrev pub IsSlackOf : BoundsSettings → Change → (table : List Stream) → (above : List Standing) → List Stream → (class place : ℕ) → Stream → Option ℕ → Option ℕ → Type 0
-IsSlackOf s c table above streams class place x None slack = slack ≡ None
-IsSlackOf s c table above streams class place x (Some deadline) slack = IsSlack s c table above streams class place x deadline slack
-
--- each stream of a class has the one at its place
-pub record AreSlacks (s : BoundsSettings) (c : Change) (table : List Stream) (above : List Standing) (streams : List Stream) (class : ℕ) (slacks : List (Option ℕ)) : Type 0 where
-  pub count : length slacks ≡ length streams
-  pub each : (place : ℕ) (x : Stream) (slack : Option ℕ) → slice_get streams place ≡ Some x → slice_get slacks place ≡ Some slack
-      → IsSlackOf s c table above streams class place x x.deadline slack
-
--- where they are asked
-abbrev pub AreAskedSlacks : Bool → BoundsSettings → Change → (table : List Stream) → (above : List Standing) → List Stream → ℕ → List (Option ℕ) → Type 0
-AreAskedSlacks false s c table above streams class slacks = slacks ≡ []
-AreAskedSlacks true s c table above streams class slacks = AreSlacks s c table above streams class slacks
-
--- 8. All classes
-
-abbrev pub with_slacks : ClassAnswer → List (Option ℕ) → ClassAnswer
-with_slacks a slacks = record { verdict = a.verdict; left = a.left; slacks = slacks }
-
--- the answer about a class, by its streams in a table, below classes that stand so
-pub record IsClassAnswer (s : BoundsSettings) (c : Change) (table : List Stream) (above : List Standing) (class : ℕ) (answer : ClassAnswer) : Type 0 where
-  pub own : ClassAnswer
-  pub right : IsOwnAnswer s c table above (streams_of s c class table) class own
-  pub slacks : AreAskedSlacks s.slack s c table above (streams_of s c class table) class answer.slacks
-  pub answered : answer ≡ with_slacks own answer.slacks
-
--- how classes from one on stand, by the answers about them
-abbrev pub standings_of : BoundsSettings → Change → List Stream → ℕ → List ClassAnswer → List Standing
-standings_of s c table class [] = []
-standings_of s c table class (answer ∷ answers) =
-    standing_of s c class (streams_of s c class table) answer.verdict ∷ standings_of s c table (class + 1) answers
-
--- the answers about classes from one on
-abbrev pub AreAnswersFrom : BoundsSettings → Change → List Stream → ℕ → List ClassAnswer → Type 0
-AreAnswersFrom s c table class [] = Unit {0}
-AreAnswersFrom s c table class (answer ∷ answers) =
-    IsClassAnswer s c table (standings_of s c table (class + 1) answers) class answer × AreAnswersFrom s c table (class + 1) answers
-
--- the answers about all eight classes
-abbrev pub AreClassAnswers : BoundsSettings → Change → List Stream → List ClassAnswer → Type 0
-AreClassAnswers s c table answers = (length answers ≡ 8) × AreAnswersFrom s c table 0 answers

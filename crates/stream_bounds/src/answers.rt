@@ -6,14 +6,15 @@ ghost use Rattle.job.specs.declared.fault.Fault.TheVariants as Faults;
 ghost use Rattle.wire_time.specs.declared.TheConstants.{CLASSES};
 ghost use Rattle.stream_bounds.specs.Classes.{IsPeriodic, streams_of};
 ghost use Rattle.stream_bounds.specs.Standing.{IsCounted, standing_of};
-ghost use Rattle.stream_bounds.specs.Verdicts.{AreClassAnswers, IsClassAnswer, answer_at, delay_of, left_after, one_told, slack_at, slack_of, slack_told};
+ghost use Rattle.stream_bounds.specs.Answers.{AreClassAnswers, IsClassAnswer};
+ghost use Rattle.stream_bounds.specs.Verdicts.{answer_at, delay_of, extra_at, extra_of, extra_told, left_after, one_told};
 
 use crate::class_answer::{ClassAnswer, own_answer};
 use crate::classes::streams_of;
+use crate::extras::{Extra, extras_of};
 use crate::faults::BoundsFault;
 use crate::settings::BoundsSettings;
 use crate::shared::Beside;
-use crate::slack::slacks_of;
 use crate::standing::{Standing, standing_of};
 use crate::verdicts::{Delay, Verdict, delay_by};
 use abstract_port::{Change, Dropped};
@@ -53,10 +54,12 @@ fn class_answer(
     let own = streams_of(alloc, settings, change, beside.table, class)?;
     let own = own.as_slice();
     let answer = own_answer(alloc, settings, change, schedule, beside, own, class)?;
-    let slacks = slacks_of(alloc, settings, change, schedule, beside, own, class)?;
+    let extras = extras_of(
+        alloc, settings, change, schedule, beside, own, class, &answer,
+    )?;
     let standing = standing_of(settings, change, class, own, answer.verdict());
     Ok(Judged {
-        answer: answer.with_slacks(slacks),
+        answer: answer.with_extras(extras),
         standing,
     })
 }
@@ -208,22 +211,22 @@ fn next_of(classes: &mut [ClassAnswer; CLASSES], class: u8) -> Option<Bound>
     classes[class as usize].next()
 }
 
-/// The jitter that the next stream of a class may have; it is then told.
-fn slack_of_next(classes: &mut [ClassAnswer; CLASSES], class: u8) -> Option<u128>
+/// What else is told of the next stream of a class; it then is.
+fn extra_of_next(classes: &mut [ClassAnswer; CLASSES], class: u8) -> Extra
     requires { class < CLASSES }
-    ensures first { result ≡ slack_at classes.old class }
-    ensures left { classes.new ≡ slack_told classes.old class }
+    ensures first { result ≡ extra_at classes.old class }
+    ensures left { classes.new ≡ extra_told classes.old class }
 {
-    classes[class as usize].next_slack()
+    classes[class as usize].next_extra()
 }
 
-/// What is told of a stream: its delay, and the jitter that it may have, where that is asked.
+/// What is told of a stream.
 #[derive(Clone, Copy)]
 pub struct Told {
     /// How long its frames take.
     pub delay: Delay,
-    /// The greatest jitter with which it makes its deadline, if it does with any.
-    pub slack: Option<u128>,
+    /// What is told beside that, where it is asked.
+    pub extra: Extra,
 }
 
 impl Answers {
@@ -244,6 +247,14 @@ impl Answers {
         Ok(Answers { classes })
     }
 
+    /// The answer about a class.
+    pub fn of(&self, class: u8) -> &ClassAnswer
+        requires { class < CLASSES }
+        ensures { result.now ≡ answer_at self.now class }
+    {
+        &self.classes[class as usize]
+    }
+
     /// The verdict about a class.
     pub fn verdict(&self, class: u8) -> Verdict
         requires { class < CLASSES }
@@ -256,13 +267,13 @@ impl Answers {
     pub fn next_told(&mut self, class: Result<u8, Dropped>) -> Told
         requires { IfOk class (λ class. class < CLASSES) }
         ensures delay { result.delay ≡ delay_of self.old class }
-        ensures slack { result.slack ≡ slack_of self.old class }
+        ensures extra { result.extra ≡ extra_of self.old class }
         ensures left { self.new ≡ left_after self.old class }
     {
         match class {
             Ok(class) => {
                 let verdict = verdict_at(&self.classes, class);
-                let slack = slack_of_next(&mut self.classes, class);
+                let extra = extra_of_next(&mut self.classes, class);
                 let bound = next_of(&mut self.classes, class);
                 let none = Bound {
                     least: 0,
@@ -270,12 +281,12 @@ impl Answers {
                 };
                 Told {
                     delay: delay_by(class, verdict, bound.unwrap_or(none)),
-                    slack,
+                    extra,
                 }
             }
             Err(why) => Told {
                 delay: Delay::Lost(why),
-                slack: None,
+                extra: Extra::none(),
             },
         }
     }

@@ -35,6 +35,8 @@ pub struct BoundsWords<'a> {
     pub strict: bool,
     /// Whether it is told which jitter the streams with deadlines may have.
     pub slack: bool,
+    /// Whether it is told what the greatest wait of each stream is made of.
+    pub why: bool,
     /// The classes that send nothing.
     pub silent: Option<&'a str>,
     /// Whether frames may wait from before the schedule.
@@ -124,6 +126,7 @@ pub fn bounds_given(words: BoundsWords<'_>) -> Result<BoundsSettings, BoundsValu
         (octets_of words.entry.frames) (octets_of words.entry.silent) (record {
           strict = words.entry.strict;
           slack = words.entry.slack;
+          why = words.entry.why;
           leftovers = words.entry.leftovers;
         }) }
 {
@@ -144,6 +147,7 @@ pub fn bounds_given(words: BoundsWords<'_>) -> Result<BoundsSettings, BoundsValu
             frames,
             strict: words.strict,
             slack: words.slack,
+            why: words.why,
             silent,
             leftovers: words.leftovers,
         }),

@@ -3,7 +3,7 @@
 ghost use Rattle.std.specs.Prelude.{◌≡◌, All, Err, IfOk, List, MatchResult, None, Ok, Option, Result, Some, true, false, ℕ};
 ghost use Rattle.job.specs.declared.fault.Fault.TheVariants as Faults;
 ghost use Rattle.octet_writer.specs.Writes.{Writes};
-ghost use Rattle.stream_bounds.specs.Verdicts.{AreClassAnswers};
+ghost use Rattle.stream_bounds.specs.Answers.{AreClassAnswers};
 ghost use Rattle.stream_bounds.specs.declared.faults.Answered.{Answered};
 ghost use Rattle.stream_bounds.specs.declared.settings.BoundsSettings.{BoundsSettings};
 ghost use Rattle.abstract_port.specs.declared.Change.{Change};

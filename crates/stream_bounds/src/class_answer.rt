@@ -10,12 +10,14 @@ ghost use Rattle.window_bounds.specs.declared.Unbound.TheVariants as WindowFault
 ghost use Rattle.stream_bounds.specs.Classes.{IsPeriodic, has_any, has_inexact};
 ghost use Rattle.stream_bounds.specs.Standing.{IsCounted};
 ghost use Rattle.stream_bounds.specs.TableRead.{IsAnswered};
-ghost use Rattle.stream_bounds.specs.Verdicts.{IsApartAnswer, IsBurstAnswer, IsAnswerWith, IsOwnAnswer, IsWindowAnswer, apart_answer, burst_answer, exact_answer, unbounded, windows_of, with_slacks, within_room};
+ghost use Rattle.stream_bounds.specs.Verdicts.{IsApartAnswer, IsBurstAnswer, IsAnswerWith, IsOwnAnswer, IsWindowAnswer, apart_answer, burst_answer, exact_answer, no_extra, unbounded, windows_of, within_room};
+ghost use Rattle.stream_bounds.specs.Answers.{with_extras};
 
 use crate::classes::{
     are_any, are_equal, flows_of, has_any, has_inexact, ids_of, jittered_flows_of, most_sdu,
     ranges_of, talkers_of,
 };
+use crate::extras::Extra;
 use crate::faults::BoundsFault;
 use crate::settings::BoundsSettings;
 use crate::shared::{Beside, sharing_answer};
@@ -30,18 +32,18 @@ use traffic::Stream;
 use window_bounds::{Bounded as Windows, Unbound as WindowUnbound, window_bounds};
 use wire_time::CLASSES;
 
-/// The answer about a class: the verdict, the bounds of its streams and the jitter that they may have, where that is
-/// asked, and how many of both are told.
+/// The answer about a class: the verdict, the bounds of its streams and what is told beside them, where that is asked,
+/// and how many of both are told.
 #[derive(Drop)]
 pub struct ClassAnswer {
     verdict: Verdict,
     bounds: Vec<Bound, Global>,
     told: usize,
-    slacks: Vec<Option<u128>, Global>,
-    slacks_told: usize,
+    extras: Vec<Extra, Global>,
+    extras_told: usize,
 }
 
-/// A contract sees the verdict, and the bounds and the jitter that are still to be told.
+/// A contract sees the verdict, and the bounds and what else is still to be told.
 impl Model for ClassAnswer {
     ghost use Rattle.std.specs.Prelude.{drop};
     ghost use Rattle.stream_bounds.specs.Verdicts.{ClassAnswer};
@@ -51,31 +53,31 @@ impl Model for ClassAnswer {
     ghost view = { λ a. record {
       verdict = a.verdict;
       left = drop a.told a.bounds.items;
-      slacks = drop a.slacks_told a.slacks.items;
+      extras = drop a.extras_told a.extras.items;
     } };
 }
 
 impl ClassAnswer {
     /// A verdict, with bounds of which none is told.
     pub fn new(alloc: Global, verdict: Verdict, bounds: Vec<Bound, Global>) -> ClassAnswer
-        ensures { result ≡ record { verdict = verdict; left = bounds.items; slacks = [] } }
+        ensures { result ≡ record { verdict = verdict; left = bounds.items; extras = [] } }
     {
         ClassAnswer {
             verdict,
             bounds,
             told: 0,
-            slacks: Vec::new(alloc),
-            slacks_told: 0,
+            extras: Vec::new(alloc),
+            extras_told: 0,
         }
     }
 
-    /// The same, with the jitter that each stream may have.
-    pub fn with_slacks(self, slacks: Vec<Option<u128>, Global>) -> ClassAnswer
-        ensures { result ≡ with_slacks self slacks.items }
+    /// The same, with what else is told of each stream.
+    pub fn with_extras(self, extras: Vec<Extra, Global>) -> ClassAnswer
+        ensures { result ≡ with_extras self extras.items }
     {
         ClassAnswer {
-            slacks,
-            slacks_told: 0,
+            extras,
+            extras_told: 0,
             ..self
         }
     }
@@ -94,18 +96,20 @@ impl ClassAnswer {
         self.bounds.get(self.told.checked_add(place)?).copied()
     }
 
-    /// The jitter of the next stream, which is then told.
-    pub fn next_slack(&mut self) -> Option<u128>
-        ensures first { result ≡ unwrap_or (slice_get self.old.slacks 0) None }
+    /// What else is told of the next stream; it then is.
+    pub fn next_extra(&mut self) -> Extra
+        ensures first { result ≡ unwrap_or (slice_get self.old.extras 0) no_extra }
         ensures left { self.new ≡ record {
           verdict = self.old.verdict;
           left = self.old.left;
-          slacks = drop 1 self.old.slacks;
+          extras = drop 1 self.old.extras;
         } }
     {
-        let slack = self.slacks.get(self.slacks_told).copied()?;
-        self.slacks_told += 1;
-        slack
+        let Some(extra) = self.extras.get(self.extras_told).copied() else {
+            return Extra::none();
+        };
+        self.extras_told += 1;
+        extra
     }
 
     /// The next bounds that are still to be told; they then are.
@@ -114,7 +118,7 @@ impl ClassAnswer {
         ensures left { self.new ≡ record {
           verdict = self.old.verdict;
           left = drop 1 self.old.left;
-          slacks = self.old.slacks;
+          extras = self.old.extras;
         } }
     {
         let bound = self.bounds.get(self.told).copied()?;

@@ -1,7 +1,7 @@
 //! How long the frames of streams wait, for ever: for each schedule command, the verdict about each class of a table of
 //! streams, and the least and the greatest delay of each stream.
 //!
-//! The claim is specs/Verdicts.antt. What is written is specs/Outcome.antt, over specs/BoundLines.antt; the contracts
+//! The claim is specs/Verdicts.antt, and specs/Answers.antt of all classes. What is written is specs/Outcome.antt, over specs/BoundLines.antt; the contracts
 //! of `bounds` and `answer_bounds` cite it.
 #![tactic(auto)]
 
@@ -12,11 +12,13 @@ mod busy;
 mod class_answer;
 mod class_lines;
 mod classes;
+mod extras;
 mod faults;
 mod notes;
 mod premise_lines;
 mod settings;
 mod shared;
+mod shares;
 mod slack;
 mod standing;
 mod stream_lines;

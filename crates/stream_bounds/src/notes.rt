@@ -3,19 +3,21 @@
 ghost use Rattle.std.specs.Prelude.{◌≡◌, ◌<◌, All, IfSome, length};
 ghost use Rattle.abstract_port.specs.AbstractPort.{plan_asked};
 ghost use Rattle.stream_bounds.specs.Classes.{IsPeriodic};
+ghost use Rattle.stream_bounds.specs.Standing.{IsCounted};
 ghost use Rattle.wire_time.specs.declared.TheConstants.{CLASSES};
 
 use crate::answers::Answers;
-use crate::class_answer::kept_answer;
+use crate::class_answer::{ClassAnswer, kept_answer};
 use crate::classes::{has_inexact, jittered_flows_of, most_sdu, streams_of};
 use crate::settings::BoundsSettings;
-use crate::shared::widest;
-use crate::standing::may_send;
+use crate::shared::{Beside, widest};
+use crate::shares::{delay_at, greatest_of, shares_where};
+use crate::standing::{Standing, may_send, standing_of};
 use crate::stream_lines::needs_of;
 use crate::verdicts::{Verdict, plus};
 use abstract_port::Change;
 use gate_list::{GateList, Schedule, is_open};
-use script::{Basis, Sharers, Watch};
+use script::{Basis, Sharers, Shares, Watch};
 use shared_bounds::sharing::shares_windows;
 use std::alloc::Global;
 use traffic::Stream;
@@ -196,6 +198,7 @@ fn sharers_of(
         classes: [false; CLASSES],
         entry: first_shared(&change.list, class),
         blocking: 0,
+        longest: None,
     };
     for other in 0..CLASSES as u8 {
         if other != class && shares_windows(schedule, class, other) {
@@ -207,6 +210,97 @@ fn sharers_of(
     sharers
 }
 
+/// How the classes above one stand. None: memory is out.
+fn standings_above(
+    alloc: Global,
+    settings: &BoundsSettings,
+    change: &Change,
+    table: &[Stream],
+    answers: &Answers,
+    class: u8,
+) -> Option<Vec<Standing, Global>>
+    requires class { class < CLASSES }
+    requires periodic { All IsPeriodic table.now }
+    ensures { IfSome result (λ above. All IsCounted above.items) }
+{
+    let mut above = Vec::new(alloc);
+    for other in class + 1..CLASSES as u8 {
+        let Ok(its) = streams_of(alloc, settings, change, table, other) else {
+            return None;
+        };
+        let verdict = answers.verdict(other);
+        let standing = standing_of(settings, change, other, its.as_slice(), verdict);
+        match above.push(standing) {
+            Ok(()) => {}
+            Err(_) => return None,
+        }
+    }
+    Some(above)
+}
+
+/// The stream that waits the longest of those of a class, and how long.
+fn longest_of(
+    settings: &BoundsSettings,
+    change: &Change,
+    own: &[Stream],
+    class: u8,
+    answer: &ClassAnswer,
+) -> Option<(Stream, u128)>
+    requires { All IsPeriodic own.now }
+    ensures { IfSome result (λ longest. IsPeriodic longest.0) }
+{
+    let mut longest: Option<(Stream, u128)> = None;
+    let mut place: usize = 0;
+    for stream in own {
+        if let Some(wait) = greatest_of(delay_at(settings, change, stream, class, answer, place)) {
+            match longest {
+                Some((_, most)) if wait <= most => {}
+                _ => longest = Some((*stream, wait)),
+            }
+        }
+        place = place.saturating_add(1);
+    }
+    longest
+}
+
+/// What the longest wait of a class with these streams is made of, and the first id of the stream that waits so long.
+fn longest_wait(
+    alloc: Global,
+    settings: &BoundsSettings,
+    change: &Change,
+    schedule: &Schedule,
+    table: &[Stream],
+    answers: &Answers,
+    own: &[Stream],
+    class: u8,
+) -> Option<(u64, Shares)>
+    requires class { class < CLASSES }
+    requires plan { schedule.now ≡ plan_asked change.now }
+    requires periodic { All IsPeriodic table.now }
+    requires own { All IsPeriodic own.now }
+{
+    let above = standings_above(alloc, settings, change, table, answers, class)?;
+    let beside = Beside {
+        table,
+        above: above.as_slice(),
+    };
+    let (stream, wait) = longest_of(settings, change, own, class, answers.of(class))?;
+    let shares = shares_where(
+        alloc,
+        settings,
+        change,
+        schedule,
+        beside,
+        class,
+        &stream,
+        Some(wait),
+    );
+    match shares {
+        Ok(Some(shares)) => Some((stream.first_id, shares)),
+        _ => None,
+    }
+}
+
 /// Tells who watches by what the bounds of a class are found.
 fn tell_basis<H: Watch>(
     alloc: Global,
@@ -214,6 +308,7 @@ fn tell_basis<H: Watch>(
     change: &Change,
     schedule: &Schedule,
     streams: &[Stream],
+    answers: &Answers,
     class: u8,
     number: u32,
     watch: &mut H,
@@ -230,7 +325,12 @@ fn tell_basis<H: Watch>(
         return;
     }
     if !schedule.keeps_apart(class) {
-        let sharers = sharers_of(alloc, settings, change, schedule, streams, class);
+        let sharers = Sharers {
+            longest: longest_wait(
+                alloc, settings, change, schedule, streams, answers, own, class,
+            ),
+            ..sharers_of(alloc, settings, change, schedule, streams, class)
+        };
         watch.class_judged(number, class, Basis::Shared(sharers));
         return;
     }
@@ -259,7 +359,7 @@ pub(crate) fn tell_bases<H: Watch>(
     for class in 0..CLASSES as u8 {
         if has_bounds(answers.verdict(class)) {
             tell_basis(
-                alloc, settings, change, schedule, streams, class, number, watch,
+                alloc, settings, change, schedule, streams, answers, class, number, watch,
             );
         }
     }

@@ -3,7 +3,8 @@
 ghost use Rattle.std.specs.Prelude.{◌≡◌, ◌<◌};
 ghost use Rattle.abstract_port.specs.AbstractPort.{plan_asked};
 ghost use Rattle.octet_writer.specs.Writes.{Writes};
-ghost use Rattle.stream_bounds.specs.BoundLines.{has_stream, is_silent, premise_lines, silent_classes, silent_line};
+ghost use Rattle.stream_bounds.specs.Answers.{has_stream, is_silent};
+ghost use Rattle.stream_bounds.specs.BoundLines.{premise_lines, silent_classes, silent_line};
 ghost use Rattle.wire_time.specs.declared.TheConstants.{CLASSES};
 
 use crate::class_lines::put_flagged;
@@ -26,7 +27,7 @@ fn has_stream(settings: &BoundsSettings, change: &Change, streams: &[Stream], cl
 }
 
 /// Whether it is taken for granted that a class sends nothing: so it is said, and it has no streams.
-fn is_silent(settings: &BoundsSettings, change: &Change, streams: &[Stream], class: u8) -> bool
+pub fn is_silent(settings: &BoundsSettings, change: &Change, streams: &[Stream], class: u8) -> bool
     requires { class < CLASSES }
     ensures { result ≡ is_silent settings.now change.now streams.now class }
 {

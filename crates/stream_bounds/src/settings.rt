@@ -27,6 +27,8 @@ pub struct BoundsSettings {
     pub strict: bool,
     /// Whether it is told which jitter the streams with deadlines may have.
     pub slack: bool,
+    /// Whether it is told what the greatest wait of each stream is made of.
+    pub why: bool,
     /// Of each class whether it sends nothing, where it has no streams.
     pub silent: [bool; CLASSES],
     /// Whether frames may wait from before the schedule came into force, of any class that isn't silent.

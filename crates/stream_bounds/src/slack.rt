@@ -5,21 +5,20 @@ ghost use Rattle.abstract_port.specs.AbstractPort.{plan_asked};
 ghost use Rattle.job.specs.declared.fault.Fault.TheVariants as Faults;
 ghost use Rattle.stream_bounds.specs.Classes.{IsPeriodic};
 ghost use Rattle.stream_bounds.specs.Standing.{IsCounted};
-ghost use Rattle.stream_bounds.specs.Verdicts.{AreAskedSlacks, AreSlacks, IsMetWith, IsOver, IsSlack, IsSlackOf, delay_at, is_met, jittered};
+ghost use Rattle.stream_bounds.specs.Answers.{IsAskedSlack, IsMetWith, IsOver, IsSlack, IsSlackOf, is_met, jittered};
 ghost use Rattle.stream_bounds.specs.declared.slack.TheConstants.{GREATEST};
 ghost use Rattle.traffic.specs.declared.table.Stream.{Stream};
 ghost use Rattle.wire_time.specs.Moment.{greatest_moment};
 ghost use Rattle.wire_time.specs.declared.TheConstants.{CLASSES};
 
-use crate::class_answer::{ClassAnswer, own_answer};
-use crate::classes::dropped_of;
+use crate::class_answer::own_answer;
 use crate::faults::BoundsFault;
 use crate::settings::BoundsSettings;
 use crate::shared::Beside;
-use crate::stream_lines::{needs_of, unless_dropped};
-use crate::verdicts::{Delay, Met, Needs, delay_by, met_by};
+use crate::shares::delay_at;
+use crate::stream_lines::needs_of;
+use crate::verdicts::{Met, Needs, met_by};
 use abstract_port::Change;
-use delay_bounds::Bound;
 use gate_list::Schedule;
 use std::alloc::Global;
 use traffic::Stream;
@@ -43,7 +42,7 @@ struct Case<'a> {
 }
 
 /// The stream at a place.
-fn stream_at(streams: &[Stream], place: usize) -> Stream
+pub fn stream_at(streams: &[Stream], place: usize) -> Stream
     requires { place < length streams.now }
     ensures { slice_get streams.now place ≡ Some result }
 {
@@ -91,19 +90,6 @@ fn is_met(met: Met) -> bool
     }
 }
 
-/// What is told of the stream of a case by an answer about its class.
-fn delay_at(case: &Case<'_>, answer: &ClassAnswer) -> Delay
-    ensures { result ≡ delay_at case.now.settings.now case.now.change.now case.now.stream case.now.class answer.now case.now.place }
-{
-    let none = Bound {
-        least: 0,
-        greatest: 0,
-    };
-    let bound = answer.bound(case.place).unwrap_or(none);
-    let delay = delay_by(case.class, answer.verdict(), bound);
-    unless_dropped(dropped_of(case.settings, case.change, &case.stream), delay)
-}
-
 /// Whether the stream of a case would make its deadline with this jitter, in picoseconds.
 fn is_met_with(alloc: Global, case: &Case<'_>, jitter: u128) -> Result<bool, BoundsFault>
     requires class { case.now.class < CLASSES }
@@ -129,8 +115,16 @@ fn is_met_with(alloc: Global, case: &Case<'_>, jitter: u128) -> Result<bool, Bou
         other.as_slice(),
         case.class,
     )?;
+    let delay = delay_at(
+        case.settings,
+        case.change,
+        &case.stream,
+        case.class,
+        &answer,
+        case.place,
+    );
     let needs = needs_of(case.settings.port.rate(), &case.stream);
-    Ok(is_met(met_by(needs, delay_at(case, &answer), case.deadline)))
+    Ok(is_met(met_by(needs, delay, case.deadline)))
 }
 
 /// A jitter, in nanoseconds, with which a stream misses this deadline, as far as can be told without a look at its
@@ -269,8 +263,9 @@ fn slack_at(
     slack_of(alloc, &case)
 }
 
-/// The jitter that each stream of a class may have.
-fn all_slacks(
+/// The greatest jitter that the stream at a place of a class may have with its deadline still met, where that is asked:
+/// in picoseconds, and whole nanoseconds.
+pub fn asked_slack(
     alloc: Global,
     settings: &BoundsSettings,
     change: &Change,
@@ -278,51 +273,23 @@ fn all_slacks(
     beside: Beside<'_>,
     streams: &[Stream],
     class: u8,
-) -> Result<Vec<Option<u128>, Global>, BoundsFault>
+    place: usize,
+) -> Result<Option<u128>, BoundsFault>
     requires class { class < CLASSES }
     requires plan { schedule.now ≡ plan_asked change.now }
     requires periodic { All IsPeriodic streams.now }
     requires table { All IsPeriodic beside.table.now }
     requires counted { All IsCounted beside.above.now }
-    ensures slacks { IfOk result (λ slacks. AreSlacks settings.now change.now beside.entry.table.now beside.entry.above.now streams.now class slacks.items) }
-    ensures memory { IfErr result (λ fault. fault ≡ Faults.Memory) }
-{
-    let mut slacks = Vec::new(alloc);
-    for place in 0..streams.len() {
-        let slack = slack_at(
-            alloc, settings, change, schedule, beside, streams, class, place,
-        )?;
-        match slacks.push(slack) {
-            Ok(()) => {}
-            Err(_) => return Err(BoundsFault::Memory),
-        }
-    }
-    Ok(slacks)
-}
-
-/// The greatest jitter that each stream of a class may have with its deadline still met, where that is asked: in
-/// picoseconds, and whole nanoseconds.
-pub fn slacks_of(
-    alloc: Global,
-    settings: &BoundsSettings,
-    change: &Change,
-    schedule: &Schedule,
-    beside: Beside<'_>,
-    streams: &[Stream],
-    class: u8,
-) -> Result<Vec<Option<u128>, Global>, BoundsFault>
-    requires class { class < CLASSES }
-    requires plan { schedule.now ≡ plan_asked change.now }
-    requires periodic { All IsPeriodic streams.now }
-    requires table { All IsPeriodic beside.table.now }
-    requires counted { All IsCounted beside.above.now }
-    ensures slacks { IfOk result (λ slacks.
-        AreAskedSlacks settings.now.slack settings.now change.now beside.entry.table.now beside.entry.above.now streams.now class slacks.items) }
+    requires place { place < length streams.now }
+    ensures slack { IfOk result (λ slack. (x : Stream) → slice_get streams.now place ≡ Some x
+        → IsAskedSlack settings.now.slack settings.now change.now beside.entry.table.now beside.entry.above.now streams.now class place x slack) }
     ensures memory { IfErr result (λ fault. fault ≡ Faults.Memory) }
 {
     if settings.slack {
-        all_slacks(alloc, settings, change, schedule, beside, streams, class)
+        slack_at(
+            alloc, settings, change, schedule, beside, streams, class, place,
+        )
     } else {
-        Ok(Vec::new(alloc))
+        Ok(None)
     }
 }

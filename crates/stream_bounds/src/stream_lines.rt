@@ -2,18 +2,20 @@
 
 ghost use Rattle.std.specs.Prelude.{◌≡◌, ◌++◌, IfOk};
 ghost use Rattle.octet_writer.specs.Writes.{Writes};
-ghost use Rattle.stream_bounds.specs.BoundLines.{bound_head, bound_line, bound_lines, deadline_end, delay_text, finding_in, first_of, lost, met_word, range_text, slack_end, slack_head, slack_line, stream_finding, stream_text, unmet};
+ghost use Rattle.stream_bounds.specs.BoundLines.{bound_head, bound_line, bound_lines, deadline_end, delay_text, extra_lines, finding_in, first_of, lost, met_word, range_text, shares_line, slack_end, slack_head, slack_line, stream_finding, stream_text, unmet, why_line};
 ghost use Rattle.stream_bounds.specs.Classes.{class_of};
-ghost use Rattle.stream_bounds.specs.Verdicts.{left_after, needs_of, next_delay, slack_of, unless_dropped};
+ghost use Rattle.stream_bounds.specs.Verdicts.{extra_of, left_after, needs_of, next_delay, unless_dropped};
 
 use crate::answers::{Answers, Told};
 use crate::classes::{class_of, dropped_of};
+use crate::extras::Extra;
 use crate::faults::Finding;
 use crate::settings::BoundsSettings;
 use crate::verdicts::{Delay, Met, Needs, met_by, plus};
 use abstract_port::{Change, Dropped};
 use answer_text::{Part, WriteFault, dropped_name, put_parts};
 use delay_bounds::Bound;
+use script::Shares;
 use std::io::Write;
 use traffic::Stream;
 use wire_time::{Rate, occupancy};
@@ -201,13 +203,13 @@ fn next_told(
     stream: &Stream,
 ) -> Told
     ensures delay { result.delay ≡ next_delay settings.now change.now answers.old stream.now }
-    ensures slack { result.slack ≡ slack_of answers.old (class_of settings.now change.now stream.now) }
+    ensures extra { result.extra ≡ extra_of answers.old (class_of settings.now change.now stream.now) }
     ensures left { answers.new ≡ left_after answers.old (class_of settings.now change.now stream.now) }
 {
     let told = answers.next_told(class_of(settings, change, stream));
     Told {
         delay: unless_dropped(dropped_of(settings, change, stream), told.delay),
-        slack: told.slack,
+        extra: told.extra,
     }
 }
 
@@ -262,7 +264,52 @@ fn put_asked_slack<W: Write>(
     }
 }
 
-/// Writes both lines of a stream.
+/// Writes the line that says what the greatest wait of a stream of this id is made of.
+fn put_shares<W: Write>(writer: &mut W, id: u64, shares: Shares) -> Result<(), WriteFault>
+    ensures { Writes result (W.contents writer.old) (W.contents writer.new) (shares_line id shares) }
+{
+    put_parts(
+        writer,
+        &[
+            Part::Text(b"why "),
+            Part::Number(u128::from(id)),
+            Part::Text(b" gates "),
+            Part::Number(shares.gates),
+            Part::Text(b" blocking "),
+            Part::Number(shares.blocking),
+            Part::Text(b" higher "),
+            Part::Number(shares.higher),
+            Part::Text(b" queue "),
+            Part::Number(shares.queue),
+            Part::Text(b"\n"),
+        ],
+    )
+}
+
+/// Writes that line where there is one.
+fn put_why<W: Write>(writer: &mut W, id: u64, shares: Option<Shares>) -> Result<(), WriteFault>
+    ensures { Writes result (W.contents writer.old) (W.contents writer.new) (why_line id shares) }
+{
+    match shares {
+        Some(shares) => put_shares(writer, id, shares),
+        None => put_parts(writer, &[]),
+    }
+}
+
+/// Writes what is told beside the bounds of a stream.
+fn put_extra<W: Write>(
+    writer: &mut W,
+    asked: bool,
+    stream: &Stream,
+    extra: Extra,
+) -> Result<(), WriteFault>
+    ensures { Writes result (W.contents writer.old) (W.contents writer.new) (extra_lines asked stream.now extra) }
+{
+    put_asked_slack(writer, asked, stream, extra.slack)?;
+    put_why(writer, stream.first_id, extra.shares)
+}
+
+/// Writes all lines of a stream.
 fn put_told<W: Write>(
     writer: &mut W,
     asked: bool,
@@ -271,10 +318,10 @@ fn put_told<W: Write>(
     told: Told,
 ) -> Result<(), WriteFault>
     ensures { Writes result (W.contents writer.old) (W.contents writer.new)
-        (stream_text asked needs stream.now told.delay told.slack) }
+        (stream_text asked needs stream.now told.delay told.extra) }
 {
     put_stream(writer, needs, stream, told.delay)?;
-    put_asked_slack(writer, asked, stream, told.slack)
+    put_extra(writer, asked, stream, told.extra)
 }
 
 /// Writes the lines of streams, and answers the first finding among them.

@@ -19,10 +19,15 @@ is_wanted value = nat_lt 0 value
 abbrev pub stamp_of : ℕ → Stamp
 stamp_of value = if is_wanted value then Stamps.End else Stamps.Start
 
--- What is asked of bounds: bit 0 that slack is told, bit 1 that frames may wait from before the schedule, and bits 8 to 15 which classes send
--- nothing.
+-- What is asked of bounds: bit 0 that slack is told, bit 1 that frames may wait from before the schedule, bit 2 what waits are made of, and
+-- bits 8 to 15 which classes send nothing.
 abbrev pub asked_of : ℕ → BoundsAsked
-asked_of flags = record { slack = flags % 2 == 1; leftovers = flags / 2 % 2 == 1; silent = flags / 256 % 256 }
+asked_of flags = record {
+  slack = flags % 2 == 1;
+  why = flags / 4 % 2 == 1;
+  leftovers = flags / 2 % 2 == 1;
+  silent = flags / 256 % 256;
+}
 
 -- the moment of two halves
 abbrev pub moment_of : ℕ → ℕ → ℕ

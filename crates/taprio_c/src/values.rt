@@ -85,14 +85,15 @@ pub fn stamp_of(value: u32) -> Stamp
     }
 }
 
-/// What is asked of bounds: bit 0 that slack is told, bit 1 that frames may wait from before the schedule, and bits 8 to 15
-/// which classes send nothing.
+/// What is asked of bounds: bit 0 that slack is told, bit 1 that frames may wait from before the schedule, bit 2 what waits
+/// are made of, and bits 8 to 15 which classes send nothing.
 pub fn asked_of(flags: u32) -> BoundsAsked
     ensures { result ≡ asked_of flags }
 {
     BoundsAsked {
         slack: flags % 2 == 1,
         leftovers: flags / 2 % 2 == 1,
+        why: flags / 4 % 2 == 1,
         silent: (flags / 256 % 256) as u8,
     }
 }

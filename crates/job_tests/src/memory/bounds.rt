@@ -7,6 +7,7 @@ use std::alloc::Global;
 /// Nothing is asked beside the usual.
 pub const NOTHING: BoundsAsked = BoundsAsked {
     slack: false,
+    why: false,
     leftovers: false,
     silent: 0,
 };

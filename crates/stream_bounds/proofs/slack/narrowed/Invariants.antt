@@ -1,5 +1,5 @@
 use Rattle.std.proofs.Common.{◌≤◌, ◌<◌, ◌+◌, ◌-◌, ◌*◌, true}
-use Rattle.stream_bounds.specs.Verdicts.{IsMetWith, IsOver}
+use Rattle.stream_bounds.specs.Answers.{IsMetWith, IsOver}
 use Rattle.stream_bounds.specs.declared.slack.TheConstants.{GREATEST}
 use Rattle.stream_bounds.proofs.slack.narrowed.Given as goal
 
