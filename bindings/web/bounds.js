@@ -7,6 +7,8 @@ const BOUND = /^bound (\d+) (?:class (\d) )?(?:(wait|within) (\d+) to (\d+) end 
 
 const SLACK = /^slack (\d+) (?:none|jitter (\d+))$/;
 
+const WHY = /^why (\d+) gates (\d+) blocking (\d+) higher (\d+) queue (\d+)$/;
+
 const SILENT_LINE = /^silent((?: \d)*)$/;
 
 /**
@@ -26,6 +28,8 @@ export function boundsIn(answers) {
     const slack = SLACK.exec(line);
     const of = found.at(-1)?.streams.at(-1);
     if (slack && of?.id === slack[1]) of.slack = slack[2] === undefined ? "none" : BigInt(slack[2]);
+    const why = WHY.exec(line);
+    if (why && of?.id === why[1]) Object.assign(of, { gates: BigInt(why[2]), blocking: BigInt(why[3]), higher: BigInt(why[4]), queue: BigInt(why[5]) });
     const it = BOUND.exec(line);
     if (!it) continue;
     const [, id, kind, how, least, greatest, first, last, word, dropped, deadline, verdict] = it;
@@ -34,7 +38,7 @@ export function boundsIn(answers) {
       id, class: kind === undefined ? null : Number(kind), least: time(least), greatest: time(greatest), first: time(first), last: time(last),
       told: dropped ? `dropped: ${dropped}` : word === "none" ? "no bound" : word === "unknown" ? "not known" : how === "within" ? "bounded, whenever its frames come" : "bounded",
       within: how === "within",
-      slack: null, deadline: time(deadline), verdict: verdict ?? "", tone: verdict === "missed" ? "bad" : verdict === "unknown" ? "doubt" : "",
+      slack: null, gates: null, blocking: null, higher: null, queue: null, deadline: time(deadline), verdict: verdict ?? "", tone: verdict === "missed" ? "bad" : verdict === "unknown" ? "doubt" : "",
     });
   }
   return found;

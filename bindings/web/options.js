@@ -3,7 +3,7 @@ import { wordOfMoment } from "./moments.js";
 
 const NUMBERS = ["rate", "mtu", "room", "frames"];
 const MOMENTS = ["until", "from", "to"];
-const FLAGS = ["summary", "shares", "windows", "late", "slack", "leftovers"];
+const FLAGS = ["summary", "shares", "windows", "late", "slack", "why", "leftovers"];
 const SEED = "seed";
 const SILENT = "silent";
 const TEXTS = [...NUMBERS, ...MOMENTS, SEED, SILENT]; // the options that are typed, or chosen of a list
@@ -13,7 +13,7 @@ const USED = {
   script: ["rate", "mtu", "room", "until", "summary"],
   draw: ["rate", "mtu", "room", "from", "to"],
   replay: ["rate", "mtu", "room", "until", "summary"],
-  bounds: ["rate", "mtu", "room", "frames", "slack", "silent", "leftovers"],
+  bounds: ["rate", "mtu", "room", "frames", "slack", "why", "silent", "leftovers"],
   check: ["rate", "shares", "windows"],
   streams: ["late", "seed"],
 };
@@ -77,7 +77,7 @@ export async function momentsIn(names, read) {
 // The values where nothing is said.
 const standing = () => ({
   rate: 1000, mtu: 1500, room: 128, frames: 1000000, width: 1200, until: null, from: null, to: null,
-  summary: false, shares: false, windows: false, late: false, slack: false, leftovers: false, seed: null, silent: null,
+  summary: false, shares: false, windows: false, late: false, slack: false, why: false, leftovers: false, seed: null, silent: null,
 });
 
 // What stands at first in a field with a text.

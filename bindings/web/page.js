@@ -9,6 +9,7 @@ import { Picture, shownIn, stepped } from "./picture.js";
 import { Viewer } from "./viewer.js";
 import { Table } from "./tables.js";
 import { GREATEST, writeMoment } from "./moments.js";
+import { linuxSaid } from "./linux.js";
 import { linesOf, readScript } from "./script.js";
 import { runVerdict } from "./frames.js";
 import { runOf, whySaid } from "./why.js";
@@ -118,12 +119,15 @@ const BOUND_COLUMNS = [
   ["id", "Stream", "number"], ["class", "Class", "number"], ["least", "Least wait", "time"], ["greatest", "Greatest wait", "time"],
   ["first", "Earliest end", "time"], ["last", "Latest end", "time"], ["deadline", "Deadline", "time"], ["verdict", "Verdict", "text"], ["told", "", "text"],
 ];
-const SLACK_COLUMNS = BOUND_COLUMNS.toSpliced(-1, 0, ["slack", "Jitter it may have", "measure"]);
+const SLACK_COLUMNS = [["slack", "Jitter it may have", "measure"]];
+const WHY_COLUMNS = [["gates", "By its gates", "time"], ["blocking", "Behind a lower class", "time"], ["higher", "Behind higher ones", "time"], ["queue", "In its own queue", "time"]];
+const boundColumns = ({ slack, why }) => BOUND_COLUMNS.toSpliced(-1, 0, ...(slack ? SLACK_COLUMNS : []), ...(why ? WHY_COLUMNS : []));
 const FRAME_COLUMNS = [
   ["id", "Frame", "number"], ["class", "Class", "number"], ["length", "Octets", "number"], ["arrival", "Arrives", "moment"], ["start", "Starts", "moment"],
   ["end", "Ends", "moment"], ["wait", "Waits", "time"], ["fate", "Fate", "text"],
 ];
 const DIFFERENCE_COLUMNS = [["of", "Of", "text"], ["what", "What", "text"], ["one", "Input's", "measure"], ["other", "Other", "measure"], ["difference", "Difference", "change"]];
+const boundsTable = ({ slack, why }) => `bounds${slack ? " slack" : ""}${why ? " why" : ""}`;
 const columns = (list) => list.map(([name, title, kind]) => ({ name, title, kind }));
 const HOW = { time: writeTime, moment: writeAt, measure: writeTime, change: writeChange };
 const tables = {
@@ -131,9 +135,10 @@ const tables = {
   replay: new Table(at("classes"), columns(CLASS_COLUMNS), HOW),
   streams: new Table(at("classes"), columns(CLASS_COLUMNS), HOW),
   check: new Table(at("classes"), columns(WINDOW_COLUMNS), HOW),
-  bounds: new Table(at("classes"), columns(BOUND_COLUMNS), HOW),
-  slack: new Table(at("classes"), columns(SLACK_COLUMNS), HOW),
 };
+// What is asked of bounds says which columns they have.
+for (const slack of [false, true])
+  for (const why of [false, true]) tables[boundsTable({ slack, why })] = new Table(at("classes"), columns(boundColumns({ slack, why })), HOW);
 const differenceTable = new Table(at("differences"), columns(DIFFERENCE_COLUMNS), HOW);
 const frameTable = new Table(at("frames-table"), columns(FRAME_COLUMNS), { ...HOW, choose: (frame) => chooseFrame(frame, true) });
 
@@ -193,7 +198,7 @@ function tellWhy(frame) {
   const isThere = frame !== null && ran.frames.includes(frame);
   const its = isThere ? otherOf(frame) : null;
   const said = its && waitSaid(ran.other, its);
-  at("why").textContent = isThere ? waitSaid(ran, frame) + (said ? ` Under the other schedule: ${said}` : "") : "";
+  at("wait-why").textContent = isThere ? waitSaid(ran, frame) + (said ? ` Under the other schedule: ${said}` : "") : "";
 }
 
 // A frame is chosen in the table or in the picture: it is shown in both, and its line of the answers.
@@ -475,7 +480,7 @@ function showTables() {
   at("classes").hidden = !rows.length;
   at("save-table").hidden = !rows.length;
   if (rows.length) {
-    const table = tables[ran.job === "bounds" && ran.values.slack ? "slack" : ran.job];
+    const table = tables[ran.job === "bounds" ? boundsTable(ran.values) : ran.job];
     table.show(rows);
     addressOf(at("save-table"), encoded(table.csv), "text/csv");
   }
@@ -598,10 +603,12 @@ function sayVerdict(answers) {
   const later = laterSaid();
   const change = ran.changes.length && !later && ["script", "replay"].includes(ran.job) ? ` In force from ${writeMoment(ran.changes[0].change)}.` : "";
   at("verdict").textContent = said + later + (ran.frames.length ? "" : change);
+  at("linux").textContent = ran.job === "check" ? linuxSaid(ran.text) : "";
 }
 
 function clearVerdict(words = "") {
   at("verdict").textContent = words;
+  at("linux").textContent = "";
   at("set-clock").hidden = true;
 }
 

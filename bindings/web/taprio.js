@@ -128,8 +128,8 @@ function streamsCall({ values }) {
   return values.late ? ["taprio_streams_late", (at, request) => [0, 0, ...slices(at, request)]] : ["taprio_streams", slices];
 }
 
-// What is asked of bounds, as TAPRIO_SLACK, TAPRIO_LEFTOVERS and TAPRIO_SILENT say it.
-const askedOf = ({ slack, leftovers, silent }) => ((silent ?? 0) << 8) | (slack ? 1 : 0) | (leftovers ? 2 : 0);
+// What is asked of bounds, as TAPRIO_SLACK, TAPRIO_LEFTOVERS, TAPRIO_WHY and TAPRIO_SILENT say it.
+const askedOf = ({ slack, why, leftovers, silent }) => ((silent ?? 0) << 8) | (slack ? 1 : 0) | (leftovers ? 2 : 0) | (why ? 4 : 0);
 
 // What each job calls, and the words of the call before its outputs; a slice is its address and its length.
 const CALLS = {

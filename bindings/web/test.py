@@ -553,28 +553,28 @@ def try_why(page):
     page.choose("schedule.script")
     page.do("at('frames-box').open = true")
     wait_for(page.browser, "return document.querySelectorAll('#frames-table tbody tr').length === 2")
-    page.same("nothing is told before", page.text("why"), "")
+    page.same("nothing is told before", page.text("wait-why"), "")
     page.do("[...document.querySelectorAll('#frames-table tbody tr')].find((it) => it.row.id === '1').click()")
-    page.same("a row tells it", page.text("why"), WHY_SCHEDULE)
+    page.same("a row tells it", page.text("wait-why"), WHY_SCHEDULE)
     page.do("[...document.querySelectorAll('#frames-table tbody tr')].find((it) => it.row.id === '2').click()")
-    page.same("a frame that does not wait", page.text("why"), "Frame 2 does not wait.")
+    page.same("a frame that does not wait", page.text("wait-why"), "Frame 2 does not wait.")
     page.do("at('canvas').scrollIntoView({ block: 'center' })")
     page.do(f"{OVER} window.tipped = over([...document.querySelectorAll('#canvas path.w')].find((it) => /H/.test(it.getAttribute('d'))))")
     page.same("a tip tells it", page.do("return window.tipped.split('\\n').at(-1)"), WHY_SCHEDULE)
     place = page.do("const r = [...document.querySelectorAll('#canvas path.w')].find((it) => /H/.test(it.getAttribute('d'))).getBoundingClientRect(); return [(r.left + r.right) / 2, (r.top + r.bottom) / 2]")
     page.browser.drag(place, place)
-    page.same("a click in the picture tells it", page.text("why"), WHY_SCHEDULE)
+    page.same("a click in the picture tells it", page.text("wait-why"), WHY_SCHEDULE)
     page.browser.drag((1, 1), (1, 1))
     page.browser.shoot(SHOTS / f"{page.browser.name}-why.png")
     page.do("at('origin').value = '0'; at('origin').dispatchEvent(new Event('change'))")
-    page.same("counted from moment 0", "until 32.303 us" in page.text("why"), True)
+    page.same("counted from moment 0", "until 32.303 us" in page.text("wait-why"), True)
     page.choose("priorities.script")
-    page.same("nothing is told of another run", page.text("why"), "")
+    page.same("nothing is told of another run", page.text("wait-why"), "")
     page.do("at('text').focus()")
     page.type(NEVER)
     page.do("[...document.querySelectorAll('#frames-table tbody tr')].find((it) => it.row.id === '1').click()")
     first = "Frame 1 still waits at the end of the run: its gate closes too soon (it needs 12.304 us, and has 5 us) until 5 us; its gate is closed until 20 us;"
-    page.same("over 300 cycles", [page.text("why")[: len(first)], page.text("why")[-12:]], [first, "; and so on."])
+    page.same("over 300 cycles", [page.text("wait-why")[: len(first)], page.text("wait-why")[-12:]], [first, "; and so on."])
     page.do("at('frames-box').open = false")
 
 
@@ -918,6 +918,18 @@ def try_timing(page):
     page.same("columns of slack", saved[0][-2:], ["slack", "told"])
     page.same("cells of slack", [row[-2] for row in saved[1:]], [str(jitter), "none", ""])
     page.do("at('slack').checked = false")
+    page.set("why", True)
+    page.run()
+    with tempfile.NamedTemporaryFile() as table:
+        table.write(DUE.encode())
+        table.flush()
+        wanted = program("bounds", "--why", table.name, text=schedule.encode())[1]
+    page.answers("why", wanted)
+    parts = re.search(rb"^why 1 gates (\d+) blocking (\d+) higher (\d+) queue (\d+)$", wanted, re.MULTILINE).groups()
+    saved = list(csv.reader(page.saved("save-table").decode().splitlines()))
+    page.same("columns of why", saved[0][-5:], ["gates_ps", "blocking_ps", "higher_ps", "queue_ps", "told"])
+    page.same("cells of why", saved[1][-5:-1], [it.decode() for it in parts])
+    page.set("why", False)
 
 
 # Two classes share their windows: a schedule, and a table of the lower one, of both, and of the upper one with a frame of the lower one
@@ -962,6 +974,25 @@ def try_sharing(page):
     page.set("leftovers", False)
 
 
+# What the software mode of Linux does otherwise: schedules, and what is said of it.
+LIKE_LINUX = "tc qdisc replace dev eth0 root taprio num_tc 2 map 0 1 sched-entry S 01 100000 sched-entry S 02 100000\n"
+ON_LINUX = [
+    (LIKE_LINUX, ""),
+    (LIKE_LINUX.replace("sched", "cycle-time 250000 sched", 1), "The software mode of Linux begins the list of line 1 again each 200000 ns, and not each 250000 ns."),
+    (LIKE_LINUX.replace("sched", "flags 0x2 cycle-time 250000 sched", 1), ""),
+    (f"{LIKE_LINUX}tc qdisc del dev eth0 root\n", "The software mode of Linux deletes at once by line 2, and throws the frames away that wait."),
+]
+
+
+def try_linux(page):
+    """What is said of the software mode of Linux beside a check."""
+    page.choose("windows.schedules")
+    for text, said in ON_LINUX:
+        page.set("text", text)
+        page.run()
+        page.same(f"Linux by {text[:80]!r}", page.text("linux"), said)
+
+
 def try_compare(page):
     """A script under a second schedule: its answers, its picture and what differs are those of a run of that schedule alone."""
     page.choose("schedule.script")
@@ -995,7 +1026,7 @@ def try_compare(page):
     page.click("[data-step=whole]")
     page.settle()
     page.do("at('other-frame').dispatchEvent(new KeyboardEvent('keydown', { key: 'ArrowRight', bubbles: true }))")
-    page.same("why a frame waits under both", [it in page.text("why") for it in ("Frame 1 waits 13.336 us", "Under the other schedule: Frame 1 does not wait.")], [True, True])
+    page.same("why a frame waits under both", [it in page.text("wait-why") for it in ("Frame 1 waits 13.336 us", "Under the other schedule: Frame 1 does not wait.")], [True, True])
     page.same("a frame that is marked in both", page.do("return document.querySelectorAll('.canvas rect.ring').length"), 2)
     try_compare_kept(page, text)
     try_compare_jobs(page)
@@ -1955,7 +1986,7 @@ def try_looks(page):
     shoot(page, "replay")
 
 
-TRIES = [try_examples, try_replay, try_typing, try_options, try_worked, try_faults, try_refused, try_zoom, try_keys, try_micros, try_moments, try_frames, try_reasons, try_why, try_drops, try_tips, try_marks, try_pictures, try_rows, try_shades, try_whole, try_bounds, try_timing, try_sharing, try_compare, try_gates, try_imports,
+TRIES = [try_examples, try_replay, try_typing, try_options, try_worked, try_faults, try_refused, try_zoom, try_keys, try_micros, try_moments, try_frames, try_reasons, try_why, try_drops, try_tips, try_marks, try_pictures, try_rows, try_shades, try_whole, try_bounds, try_timing, try_sharing, try_linux, try_compare, try_gates, try_imports,
          try_story, try_tabs, try_kept, try_long, try_files, try_forgotten, try_dates, try_stale, try_live, try_link, try_stop, try_access, try_screens, try_sizes, try_looks]
 
 
