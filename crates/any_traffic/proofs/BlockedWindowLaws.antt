@@ -20,7 +20,7 @@ use Rattle.any_traffic.proofs.ListLaws.{none_here, one_before}
 use Rattle.any_traffic.proofs.Offered.{queued_order}
 use Rattle.any_traffic.proofs.PeriodicWindowLaws.{HavePeriod, as_many, must_more, the_frame}
 use Rattle.any_traffic.proofs.RunParts.{sound_of}
-use Rattle.any_traffic.proofs.SharedSlots.{AreSound, count_of, slots_one}
+use Rattle.any_traffic.proofs.SharedSlots.{AreSound, cover_of, slots_one}
 use Rattle.any_traffic.proofs.SharedWaits.{IsUp, at_now, at_start, begun_from, main, waits_from}
 use Rattle.any_traffic.proofs.StartLaws.{since_at}
 use Rattle.any_traffic.proofs.Sharing.{SharedHolds, shared_run}
@@ -202,7 +202,7 @@ blocked_window_law ps mtu room c pitch need blocking a plan events flows numbers
       λ x y. by_late k 0 x.at f (let z : k + 0 ≡ k = omega arith in z) e
           (begun_from (a ∷ []) ps c (need c) all came keep.short now held.wire (queue_of (port_after events p) c) held.served k f x e y)
           ((at_start ps a pos all now c plan (r.one).is (r.one).above need blocking pitch (λ x. length came)
-          (λ j y. 0) [] sharing.blocked some_pitch sharing.among sound few came held.wire
+          (λ i j y. 0) [] sharing.blocked some_pitch sharing.among sound few came held.wire
           (queue_of (port_after events p) c) held.served held.since order keep k x y).later),
       λ past. elim (cases_lt k (length mine)) [
         | inl less ↦ less
@@ -214,7 +214,7 @@ blocked_window_law ps mtu room c pitch need blocking a plan events flows numbers
             (waits_from (a ∷ []) ps c (need c) all came keep.short now held.wire (queue_of (port_after events p) c) held.served m g.0 g.1
             (le_refl m))
             ((at_now ps a pos all now c plan (r.one).is (r.one).above need blocking pitch (λ x. length came)
-            (λ j y. 0) [] sharing.blocked some_pitch sharing.among sound few came held.wire
+            (λ i j y. 0) [] sharing.blocked some_pitch sharing.among sound few came held.wire
             (queue_of (port_after events p) c) held.served held.since order keep m (le_refl m)).later) in
             absurd (omega (arith, not_yet, past))
       ],
@@ -223,12 +223,12 @@ blocked_window_law ps mtu room c pitch need blocking a plan events flows numbers
         sound : AreSound (a ∷ []) need all
         sound = sound_of ps mtu room a events need (r.one).rate (r.one).large full held.long short
 
-        few : (j l : ℕ) → slice_get (let none : List ℕ = [] in none) j ≡ Some l → (u v : ℕ) → count_of l u (v + 1) all ≤ 0
+        few : (j l : ℕ) → slice_get (let none : List ℕ = [] in none) j ≡ Some l → (u v : ℕ) → cover_of pitch l u (v + 1) all ≤ 0
         few j l at u v = absurd (none_here j l at)
 
         by_late : (j m moment : ℕ) (g : Came) → j + m ≡ k → slice_get came j ≡ Some g
             → (b : IsUp ps a pos all now c plan (r.one).is (r.one).above need blocking pitch (λ x. length came)
-            (λ j y. 0) [] sharing.blocked some_pitch sharing.among sound few came held.wire
+            (λ i j y. 0) [] sharing.blocked some_pitch sharing.among sound few came held.wire
             (queue_of (port_after events p) c) held.served held.since order keep j moment)
             → ((l : ℕ) (z : Start) → slice_get mine l ≡ Some z → j ≤ l → moment ≤ z.at) → moment ≤ a.change + s
         by_late j m moment g is at b later =
@@ -248,7 +248,7 @@ blocked_window_law ps mtu room c pitch need blocking a plan events flows numbers
             let near = shared_before (may_by plan c) (need c) pitch blocking (plan_gate plan c) gradual q (j - b.place) m far.0
             (subst (λ x. IsSharedSlot (may_by plan c) (need c) pitch blocking q x far.0) count far.1) in
             let early = main ps a pos all now c plan (r.one).is (r.one).above need blocking pitch (λ x. length came)
-            (λ j y. 0) [] sharing.blocked some_pitch
+            (λ i j y. 0) [] sharing.blocked some_pitch
             sharing.among sound few came held.wire
             (queue_of (port_after events p) c) held.served held.since order keep j moment g at b later
             (j - b.place) near.0 near.1 (one_each (j - b.place)) in

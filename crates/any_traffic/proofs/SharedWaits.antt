@@ -18,7 +18,7 @@ use Rattle.any_traffic.specs.SharedBounds.{AreFew, IsSharedBusyPeriod, IsSoon, s
 use Rattle.any_traffic.specs.SharedRuns.{AtMostWait}
 use Rattle.any_traffic.specs.SharedSlots.{AreAbove, IsBlocking, IsSharedSlot, slots_of}
 use Rattle.any_traffic.proofs.ListLaws.{none_here, one_at, one_before}
-use Rattle.any_traffic.proofs.SharedSlots.{AreSound, at_load, at_slot, count_of, load_all}
+use Rattle.any_traffic.proofs.SharedSlots.{AreSound, at_load, at_slot, count_of, cover_all, cover_count, cover_of}
 use Rattle.any_traffic.proofs.StartLaws.{class_rises, shared_come, start_before, start_frame, class_at, class_of, class_one, count_own, since_at, span}
 use Rattle.any_traffic.proofs.Sharing.{AreShared, AreSince, IsSharedStart, IsTaken}
 
@@ -236,10 +236,10 @@ pub record AreInTime (all : List Start) (now c : ℕ) (came : List Came) (wait w
   pub few : AtMostWait waiting came (starts_of_class c all)
 
 module _ (ps : ℕ) (a : Accepted) (some_time : 0 < ps) (all : List Start) (now : ℕ) (c : ℕ) (plan : Plan) (is : a.plan ≡ Some plan)
-    (above : 0 < plan.cycle) (need blocking : ℕ → ℕ) (pitch : ℕ) (curve : ℕ → ℕ) (curves : ℕ → ℕ → ℕ) (higher : List ℕ)
+    (above : 0 < plan.cycle) (need blocking : ℕ → ℕ) (pitch : ℕ) (curve : ℕ → ℕ) (curves : ℕ → ℕ → ℕ → ℕ) (higher : List ℕ)
     (blocked : IsBlocking plan c need blocking) (pitched : 0 < pitch) (those : AreAbove plan c higher)
     (sound : AreSound (a ∷ []) need all)
-    (above_few : (i j : ℕ) → slice_get higher i ≡ Some j → (p s : ℕ) → count_of j p (s + 1) all ≤ curves j (s - p))
+    (above_few : (i j : ℕ) → slice_get higher i ≡ Some j → (p s : ℕ) → cover_of pitch j p (s + 1) all ≤ curves pitch j (s - p))
     (came : List Came) (wire : ℕ) (waiting_now : List Frame)
     (served : AreShared (open_through (a ∷ []) c) ps c all 0 now came (starts_of_class c all) wire waiting_now)
     (come_since : AreSince a.change came)
@@ -262,24 +262,23 @@ module _ (ps : ℕ) (a : Accepted) (some_time : 0 < ps) (all : List Start) (now 
   pub main : (i m : ℕ) (f : Came) → slice_get came i ≡ Some f → (b : IsUp i m)
       → ((j : ℕ) (z : Start) → slice_get begun j ≡ Some z → i ≤ j → m ≤ z.at)
       → (n s : ℕ) → IsSharedSlot (may_by plan c) (need c) pitch blocking ((b.frame).moment - a.change) n s
-      → slots_of (need c) pitch * (i - b.place) + slots_above need pitch curves higher (s - ((b.frame).moment - a.change)) ≤ n
+      → slots_of (need c) pitch * (i - b.place) + slots_above pitch curves higher (s - ((b.frame).moment - a.change)) ≤ n
       → m ≤ a.change + s
   main i m f e b later n s slot enough = elim (cases_lt (a.change + s) m) [
     | inr le ↦ le
     | inl less ↦
         let x = at_slot a plan is above c higher need blocking pitch all sound blocked pitched those pos p m busy clear n s slot
         less in
-        let count = subst (λ t. suc n ≤ load_all (λ j. slots_of (need j) pitch) c higher t (a.change + s + 1) all) at
+        let count = subst (λ t. suc n ≤ cover_all pitch c higher t (a.change + s + 1) all) at
         (at_load a plan is above c higher need blocking pitch all sound blocked pitched those pos p m busy clear n s x) in
+        let counted = cover_count pitch (need c) c (b.frame).moment (a.change + s + 1) all pitched own_short in
         let own = mul-le-mul_left (slots_of (need c) pitch) (own_few less) in
-        let others = sum_le (λ j. slots_of (need j) pitch * count_of j (b.frame).moment (a.change + s + 1) all)
-        (λ j. slots_of (need j) pitch * curves j (s - p)) higher
+        let others = sum_le (λ j. cover_of pitch j (b.frame).moment (a.change + s + 1) all) (λ j. curves pitch j (s - p)) higher
         (λ i j e.
         let one = above_few i j e (b.frame).moment (a.change + s) in
         let same : a.change + s - (b.frame).moment ≡ s - p = omega (arith, at) in
-        mul-le-mul_left (slots_of (need j) pitch)
-        (subst (λ t. count_of j (b.frame).moment (a.change + s + 1) all ≤ curves j t) same one)) in
-        absurd (omega (arith, count, own, others, enough))
+        subst (λ t. cover_of pitch j (b.frame).moment (a.change + s + 1) all ≤ curves pitch j t) same one) in
+        absurd (omega (arith, count, counted, own, others, enough))
   ]
     where
       p : ℕ
@@ -314,6 +313,12 @@ module _ (ps : ℕ) (a : Accepted) (some_time : 0 < ps) (all : List Start) (now 
                 let come = g.2 in
                 absurd (omega (arith, order, come, early, same))
           ]
+
+      own_short : (k : ℕ) (y : Start) → slice_get all k ≡ Some y → y.class ≡ c → y.«end» ≤ y.at + need c
+      own_short k y e own =
+          let short = sound.short k y e in
+          let same = ap need own in
+          omega (arith, short, same)
 
       own_few : a.change + s < m → count_of c (b.frame).moment (a.change + s + 1) all ≤ i - b.place
       own_few less = by (count_of c (b.frame).moment (a.change + s + 1) all) refl
@@ -531,7 +536,7 @@ module _ (ps : ℕ) (a : Accepted) (some_time : 0 < ps) (all : List Start) (now 
             let next = r.before in
             let own = mul-le-mul_left (slots_of (need c) pitch)
             (let l : r.at - b.place ≤ curve last - 1 = omega (arith, up, count) in l) in
-            let enough : slots_of (need c) pitch * (r.at - b.place) + slots_above need pitch curves higher (q.slot - p) ≤ (q.is).behind =
+            let enough : slots_of (need c) pitch * (r.at - b.place) + slots_above pitch curves higher (q.slot - p) ≤ (q.is).behind =
             omega (arith, space, own) in
             elim (cases_lt r.at i) [
               | inr behind ↦

@@ -1,7 +1,8 @@
 -- The starts of a run: one after another, and those of a class among them.
-use Rattle.std.proofs.Common.{◌≡◌, ◌<◌, ◌≤◌, ℕ, zero, suc, ◌+◌, Bool, true, false, cond, ◌&&◌, leb, ltb, eqb, inl, inr, List, [], ◌∷◌, length, slice_get, Some, refl, sym, ap, ◌∙◌, subst, arith}
+use Rattle.std.proofs.Common.{◌≡◌, ◌<◌, ◌≤◌, ℕ, zero, suc, ◌+◌, ◌*◌, Bool, true, false, cond, ◌&&◌, leb, ltb, eqb, ◌⊎◌, inl, inr, List, [], ◌∷◌, length, slice_get, sum_by, take, drop, Some, refl, sym, ap, ◌∙◌, subst, arith}
 use Rattle.std.specs.Prelude.{slice_index_or}
 use Rattle.std.proofs.lemmas.Bool.{cases_lt, eqb-true, eq-eqb, leb-true, ltb-true, and_parts}
+use Rattle.std.proofs.lemmas.List.Sums.{sum_by-cons}
 use Rattle.std.proofs.lemmas.Option.{same_Some}
 use Rattle.wire_time.specs.declared.Frame.{Frame}
 use Rattle.list_config.specs.History.{Accepted}
@@ -14,7 +15,9 @@ use Rattle.separation.specs.Traffic.{Came, starts_of_class}
 use Rattle.any_traffic.proofs.Counting.{one_if}
 use Rattle.any_traffic.proofs.ListLaws.{none_here, one_before}
 use Rattle.any_traffic.proofs.PartLaws.{come_by}
-use Rattle.any_traffic.proofs.SharedSlots.{AreSound, count_of, is_counted}
+use Rattle.any_traffic.specs.SharedSlots.{slots_by}
+use Rattle.any_traffic.proofs.SharedSlots.{AreSound, count_of, cover_of, is_counted}
+use Rattle.any_traffic.proofs.Weights.{take_behind}
 use Rattle.any_traffic.proofs.Sharing.{AreLong, AreShared, AreSince}
 
 -- ---- all starts of a run
@@ -140,6 +143,97 @@ count_own j p s (x ∷ xs) = by (eqb x.class j) refl (count_own j p s xs)
         let here : one_if (is_counted j p s x) ≡ one_if (leb p x.at && ltb x.at s) = ap (λ b. one_if (b && (leb p x.at && ltb x.at s))) e in
         omega (arith, ih, here)
     by false e ih = omega (arith, ih)
+
+-- so they cover as many slots
+pub cover_own : (pitch j p s : ℕ) (xs : List Start) → cover_of pitch j p s xs ≡ cover_of pitch j p s (starts_of_class j xs)
+cover_own pitch j p s [] = refl
+cover_own pitch j p s (x ∷ xs) = by (eqb x.class j) refl (cover_own pitch j p s xs)
+  where
+    by : (b : Bool) → eqb x.class j ≡ b → cover_of pitch j p s xs ≡ cover_of pitch j p s (starts_of_class j xs)
+        → slots_by pitch x * one_if (b && (leb p x.at && ltb x.at s)) + cover_of pitch j p s xs ≡ cover_of pitch j p s
+        (cond b (x ∷ starts_of_class j xs) (starts_of_class j xs))
+    by true e ih =
+        let here : slots_by pitch x * one_if (is_counted j p s x) ≡ slots_by pitch x * one_if (leb p x.at && ltb x.at s)
+        = ap (λ b. slots_by pitch x * one_if (b && (leb p x.at && ltb x.at s))) e in
+        omega (arith, ih, here)
+    by false e ih = (let none : slots_by pitch x * 0 ≡ 0 = omega arith in omega (arith, ih, none))
+
+-- Those that are counted are among the ones from a first to a last of them.
+pub record IsCovered (pitch p s cover : ℕ) (xs : List Start) : Type 0 where
+  pub place : ℕ
+  pub more : ℕ
+  pub first : Start
+  pub last : Start
+  pub one : slice_get xs place ≡ Some first
+  pub other : slice_get xs (place + more) ≡ Some last
+  pub from : p ≤ first.at
+  pub before : last.at < s
+  pub covers : cover ≤ sum_by (slots_by pitch) (take (suc more) (drop place xs))
+
+pub cover_span : (pitch j p s : ℕ) (xs : List Start)
+    → (cover_of pitch j p s xs ≡ 0) ⊎ IsCovered pitch p s (cover_of pitch j p s xs) xs
+cover_span pitch j p s [] = inl refl
+cover_span pitch j p s (x ∷ xs) = by (is_counted j p s x) refl (cover_span pitch j p s xs)
+  where
+    w : ℕ
+    w = slots_by pitch x
+
+    rest : ℕ
+    rest = cover_of pitch j p s xs
+
+    by : (b : Bool) → is_counted j p s x ≡ b → (rest ≡ 0) ⊎ IsCovered pitch p s rest xs
+        → (w * one_if b + rest ≡ 0) ⊎ IsCovered pitch p s (w * one_if b + rest) (x ∷ xs)
+    by false t (inl none) = inl (let zero_here : w * 0 ≡ 0 = omega arith in omega (arith, none, zero_here))
+    by false t (inr r) =
+        let at : suc (r.place + r.more) ≡ suc r.place + r.more = omega arith in
+        let covers = r.covers in
+        let zero_here : w * 0 ≡ 0 = omega arith in
+        inr (record {
+          place = suc r.place;
+          more = r.more;
+          first = r.first;
+          last = r.last;
+          one = r.one;
+          other = ap (slice_get (x ∷ xs)) (sym at) ∙ r.other;
+          from = r.from;
+          before = r.before;
+          covers = omega (arith, covers, zero_here);
+        })
+    by true t (inl none) =
+        let test = and_parts (leb p x.at) (ltb x.at s) (and_parts (eqb x.class j) (leb p x.at && ltb x.at s) t).1 in
+        let all = sum_by-cons (slots_by pitch) x [] in
+        let one_here : w * 1 ≡ w = omega arith in
+        inr (record {
+          place = 0;
+          more = 0;
+          first = x;
+          last = x;
+          one = refl;
+          other = refl;
+          from = leb-true p x.at test.0;
+          before = ltb-true x.at s test.1;
+          covers = omega (arith, none, all, one_here);
+        })
+    by true t (inr r) =
+        let test = and_parts (leb p x.at) (ltb x.at s) (and_parts (eqb x.class j) (leb p x.at && ltb x.at s) t).1 in
+        let at : 0 + suc (r.place + r.more) ≡ suc (r.place + r.more) = omega arith in
+        let covers = r.covers in
+        let behind = take_behind (slots_by pitch) (suc r.more) r.place xs in
+        let longer : r.place + suc r.more ≡ suc (r.place + r.more) = omega arith in
+        let whole = ap (λ n. sum_by (slots_by pitch) (take n xs)) longer in
+        let all = sum_by-cons (slots_by pitch) x (take (suc (r.place + r.more)) xs) in
+        let one_here : w * 1 ≡ w = omega arith in
+        inr (record {
+          place = 0;
+          more = suc (r.place + r.more);
+          first = x;
+          last = r.last;
+          one = refl;
+          other = ap (slice_get (x ∷ xs)) at ∙ r.other;
+          from = leb-true p x.at test.0;
+          before = r.before;
+          covers = omega (arith, covers, behind, whole, all, one_here);
+        })
 
 -- the first and the last of those that are counted
 pub record IsSpan (p s : ℕ) (xs : List Start) (m : ℕ) : Type 0 where

@@ -11,16 +11,16 @@ use Rattle.any_traffic.specs.SharedRuns.{IsSharedInTime, IsSharedRun}
 use Rattle.any_traffic.specs.SharedSlots.{IsSharedSlot, IsSharing, slots_of}
 
 -- how many slots the frames of the higher classes may cover that start from a moment to one that is y later
-abbrev pub slots_above : (need : ℕ → ℕ) (pitch : ℕ) (curves : ℕ → ℕ → ℕ) → List ℕ → ℕ → ℕ
-slots_above need pitch curves higher y = sum_by (λ j. slots_of (need j) pitch * curves j y) higher
+abbrev pub slots_above : (pitch : ℕ) (curves : ℕ → ℕ → ℕ → ℕ) → List ℕ → ℕ → ℕ
+slots_above pitch curves higher y = sum_by (λ j. curves pitch j y) higher
 
-module _ (plan : Plan) (class : ℕ) (need blocking : ℕ → ℕ) (pitch : ℕ) (curve : ℕ → ℕ) (curves : ℕ → ℕ → ℕ) (higher : List ℕ) where
+module _ (plan : Plan) (class : ℕ) (need blocking : ℕ → ℕ) (pitch : ℕ) (curve : ℕ → ℕ) (curves : ℕ → ℕ → ℕ → ℕ) (higher : List ℕ) where
   -- The slot at s, counted from t on, is one for k frames of the class: no fewer slots are before it than all of these but the last may
   -- cover, and all that may start of the higher classes by then.
   pub record IsSlotFor (t k s : ℕ) : Type 0 where
     pub behind : ℕ
     pub is : IsSharedSlot (may_by plan class) (need class) pitch blocking t behind s
-    pub enough : slots_of (need class) pitch * (k - 1) + slots_above need pitch curves higher (s - t) ≤ behind
+    pub enough : slots_of (need class) pitch * (k - 1) + slots_above pitch curves higher (s - t) ≤ behind
 
   -- of the frames of the class that come from t on within x, the last starts at most `wait` after x has passed
   abbrev pub IsSoon : ℕ → ℕ → ℕ → Type 0
@@ -49,7 +49,7 @@ module _ (plan : Plan) (class : ℕ) (need blocking : ℕ → ℕ) (pitch : ℕ)
 -- the start curves of the higher ones, and with how long a frame of each class needs the wire at most.
 abbrev pub SharedLaw : Type 0
 SharedLaw =
-    (ps mtu room class pitch wait waiting : ℕ) (need blocking : ℕ → ℕ) (curve : ℕ → ℕ) (curves : ℕ → ℕ → ℕ) (higher : List ℕ)
+    (ps mtu room class pitch wait waiting : ℕ) (need blocking : ℕ → ℕ) (curve : ℕ → ℕ) (curves : ℕ → ℕ → ℕ → ℕ) (higher : List ℕ)
     (a : Accepted) (plan : Plan) (events : List Event)
     → IsSharing plan class higher need blocking → 0 < pitch → IsSharedRun ps mtu room events class need curve curves higher a plan
     → AreSharedBounds plan class need blocking pitch curve curves higher wait waiting
@@ -59,7 +59,7 @@ SharedLaw =
 -- class rises.
 abbrev pub SharedBusyLaw : Type 0
 SharedBusyLaw =
-    (ps mtu room class pitch wait waiting : ℕ) (need blocking : ℕ → ℕ) (curve : ℕ → ℕ) (curves : ℕ → ℕ → ℕ) (higher : List ℕ)
+    (ps mtu room class pitch wait waiting : ℕ) (need blocking : ℕ → ℕ) (curve : ℕ → ℕ) (curves : ℕ → ℕ → ℕ → ℕ) (higher : List ℕ)
     (a : Accepted) (plan : Plan) (events : List Event)
     → IsSharing plan class higher need blocking → 0 < pitch → IsSharedRun ps mtu room events class need curve curves higher a plan
     → ((x y : ℕ) → x ≤ y → curve x ≤ curve y)
@@ -70,7 +70,7 @@ SharedBusyLaw =
 -- to the end of the first cycle bounds it from any.
 abbrev pub SharedCycleLaw : Type 0
 SharedCycleLaw =
-    (plan : Plan) (class pitch wait waiting : ℕ) (need blocking : ℕ → ℕ) (curve : ℕ → ℕ) (curves : ℕ → ℕ → ℕ) (higher : List ℕ)
+    (plan : Plan) (class pitch wait waiting : ℕ) (need blocking : ℕ → ℕ) (curve : ℕ → ℕ) (curves : ℕ → ℕ → ℕ → ℕ) (higher : List ℕ)
     → 0 < plan.cycle → ((u : ℕ) → 0 < u → blocking (u + in_ps plan.cycle) ≡ blocking u)
     → ((t : ℕ) → t ≤ in_ps plan.cycle → IsSharedBusyPeriod plan class need blocking pitch curve curves higher wait waiting t)
     → (t : ℕ) → IsSharedBusyPeriod plan class need blocking pitch curve curves higher wait waiting t

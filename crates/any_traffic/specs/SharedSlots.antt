@@ -6,6 +6,7 @@
 -- have of the wire, and the others are a pitch apart. The pitch may be any: a frame has the wire at as many slots as its length covers.
 use Rattle.std.specs.Prelude.{◌≡◌, ◌<◌, ◌≤◌, ◌⊎◌, ℕ, zero, suc, ◌+◌, ◌-◌, ◌/◌, Bool, true, false, not, ◌&&◌, List, Some, slice_get}
 use Rattle.gate_list.specs.Gate.{Plan}
+use Rattle.abstract_port.specs.declared.Start.{Start}
 use Rattle.delay_bounds.specs.Walk.{may_by}
 
 -- the classes above one, of which frames may start in its windows, are among these
@@ -27,6 +28,10 @@ pub record IsSharing (plan : Plan) (class : ℕ) (higher : List ℕ) (need block
 -- how many slots that are a pitch apart a frame covers at most that needs the wire for so long: as many as pitches, rounded up
 unfoldable pub slots_of : (need pitch : ℕ) → ℕ
 slots_of need pitch = (need + (pitch - 1)) / pitch
+
+-- how many a frame that starts covers at most while it has the wire
+abbrev pub slots_by : (pitch : ℕ) → Start → ℕ
+slots_by pitch x = slots_of (x.«end» - x.at) pitch
 
 -- the gate opens at u, for so long that a frame of the class may start when what has the wire has ended
 abbrev pub is_opening : (may : ℕ → ℕ → Bool) (own : ℕ) (blocking : ℕ → ℕ) (u : ℕ) → Bool

@@ -1,19 +1,24 @@
 -- Frames of streams that come in their windows conform to an arrival curve; so a class that is judged by one keeps its promise.
-use Rattle.std.proofs.Common.{◌≡◌, ◌<◌, ◌≤◌, ◌⊎◌, inl, inr, ℕ, zero, suc, ◌+◌, ◌-◌, ◌*◌, Bool, true, false, eqb, List, map, length, Option, Some, None, option_map, get_or, slice_get, refl, sym, ap, ◌∙◌, subst, arith, mul_comm}
+use Rattle.std.proofs.Common.{◌≡◌, ◌<◌, ◌≤◌, ◌⊎◌, inl, inr, ℕ, zero, suc, ◌+◌, ◌-◌, ◌*◌, min, Bool, true, false, eqb, List, map, length, take, drop, sum_by, Option, Some, None, option_map, get_or, slice_get, refl, sym, ap, ◌∙◌, subst, arith, mul_comm}
 use Rattle.std.proofs.Math.Nat.{le-div_iff_mul-le}
 use Rattle.std.proofs.lemmas.Bool.{cases_lt, eqb-true, eq-eqb}
 use Rattle.std.proofs.lemmas.Option.{get_or_from_slice_get, same_Some, slice_get-map, slice_get_within}
+use Rattle.wire_time.specs.Wire.{occupancy_of}
 use Rattle.abstract_port.specs.AbstractPort.{new_port}
 use Rattle.abstract_port.specs.declared.Start.{Start}
 use Rattle.separation.specs.Traffic.{Came}
 use Rattle.any_traffic.specs.ArrivalCurve.{ConformTo}
 use Rattle.any_traffic.specs.Runs.{end_of_run}
+use Rattle.any_traffic.specs.SharedSlots.{slots_of}
+use Rattle.any_traffic.specs.SlotCurve.{CoverUpTo, slot_curve, slots_for}
 use Rattle.any_traffic.specs.Sporadic.{AreFlows, Sporadic, curve_of, curve_of_all}
-use Rattle.any_traffic.proofs.Counting.{no_more_pairs, total_list}
+use Rattle.any_traffic.proofs.Counting.{no_more_pairs, total_list, weigh_pairs}
 use Rattle.any_traffic.proofs.ListLaws.{one_before}
 use Rattle.any_traffic.proofs.Offered.{are_rising}
 use Rattle.any_traffic.proofs.OwnStarts.{own_starts_law}
 use Rattle.any_traffic.proofs.PartLaws.{rising_pair}
+use Rattle.any_traffic.proofs.SharedSlots.{slots_rise}
+use Rattle.any_traffic.proofs.Weights.{take_total}
 use Rattle.late_claim.specs.LateClaim.{CurveClaim}
 use Rattle.network_claim.proofs.Apart.{apart_run}
 use Rattle.network_claim.proofs.Lengths.{need_of_stream}
@@ -224,6 +229,40 @@ module _ (net : Network) (port class : ℕ) (r : PortRun) (nominal : (stream n :
         let pairs = no_more_pairs place number (length talkers) low wide (suc n) within distinct in
         let all = total_list (curve_of span) no_talker talkers in
         omega (arith, pairs, all)
+
+    -- how many slots they cover
+    module _ (pitch : ℕ) (some : 0 < pitch) where
+      abbrev weight : ℕ → ℕ
+      weight i = slots_of (min d (get_or talkers i no_talker).need) pitch
+
+      one_covers : (m : ℕ) (c : Came) → m < suc n → slice_get came (k + m) ≡ Some c
+          → slots_for (net.ports port).ps pitch c ≤ weight (place (0 + m))
+      one_covers m c less e =
+          let x = one m less in
+          let h = x.1 in
+          let is = x.2 in
+          let same : x.0 ≡ c = same_Some x.0 c (sym is.came ∙ e) in
+          let its = ap (λ (y : Came). slots_for (net.ports port).ps pitch y) same in
+          let need = (need_of_stream net port (net.streams h.stream) x.0 (long (k + m) (place m) (number m) x.0 h is)).1 in
+          let flow = talker_is (place m) h is.hop in
+          let bound = (these (place m) (talker_at net port h) flow).1 in
+          let up = slots_rise (occupancy_of (net.ports port).ps (x.0).frame.len) (min d (talker_at net port h).need) pitch some
+          (omega (arith, need, bound)) in
+          let mine : weight (place m) ≡ slots_of (min d (talker_at net port h).need) pitch
+          = ap (λ (y : Sporadic). slots_of (min d y.need) pitch) (get_or_from_slice_get talkers (place m) (talker_at net port h) no_talker flow) in
+          let at : 0 + m ≡ m = omega arith in
+          let there = ap (λ y. weight (place y)) at in
+          omega (arith, its, up, mine, there)
+
+      covers : sum_by (slots_for (net.ports port).ps pitch) (take (suc n) (drop k came)) ≤ slot_curve d pitch talkers span
+      covers =
+          let each = take_total (slots_for (net.ports port).ps pitch) (λ m. weight (place m)) 0 (suc n) k came one_covers in
+          let all = weigh_pairs place number (length talkers) low wide weight (suc n) within distinct in
+          let sum = total_list (λ flow. slots_of (min d flow.need) pitch * curve_of span flow) no_talker talkers in
+          omega (arith, each, all, sum)
+
+  pub cover : (d : ℕ) → AreFlows d talkers → (pitch : ℕ) → 0 < pitch → CoverUpTo (net.ports port).ps pitch (slot_curve d pitch talkers) came
+  cover d these pitch some k n f g e h = covers d these k n f g e h pitch some
 
   pub conform : (d : ℕ) → AreFlows d talkers → ConformTo (net.ports port).ps d (curve_of_all talkers) came
   conform d these = record {

@@ -1,5 +1,5 @@
 -- A frame goes from one port to another: a run of each, in which this frame comes alone.
-use Rattle.std.proofs.Common.{◌≡◌, ◌<◌, ◌≤◌, inl, inr, ℕ, zero, suc, ◌+◌, ◌-◌, Bool, true, false, cond, List, [], ◌∷◌, Some, None, slice_get, refl, sym, ap, ◌∙◌, subst, arith, le_refl}
+use Rattle.std.proofs.Common.{◌≡◌, ◌<◌, ◌≤◌, inl, inr, ℕ, zero, suc, ◌+◌, ◌-◌, ◌*◌, ◌/◌, min, Bool, true, false, cond, List, [], ◌∷◌, Some, None, slice_get, refl, sym, ap, ◌∙◌, subst, arith, le_refl}
 use Rattle.std.proofs.lemmas.Bool.{eq-eqb}
 use Rattle.std.proofs.lemmas.Option.{none-some, same_Some, slice_get_within}
 use Rattle.std.proofs.lemmas.List.Sums.{sum_by-cons}
@@ -12,12 +12,15 @@ use Rattle.abstract_port.specs.declared.Start.{Start}
 use Rattle.separation.specs.Separation.{is_class}
 use Rattle.separation.specs.Traffic.{Came}
 use Rattle.any_traffic.specs.ArrivalCurve.{ConformTo}
+use Rattle.any_traffic.specs.SharedSlots.{slots_of}
+use Rattle.any_traffic.specs.SlotCurve.{CoverUpTo, slot_curve, slots_for}
+use Rattle.any_traffic.proofs.SharedSlots.{slots_rise}
 use Rattle.any_traffic.specs.Runs.{IsScheduledRun, end_of_run}
 use Rattle.any_traffic.specs.Sporadic.{curve_of}
 use Rattle.any_traffic.proofs.ListLaws.{none_here, one_at}
 use Rattle.burst_bounds.specs.Talkers.{curve, flows_of, sporadic_of}
 use Rattle.burst_bounds.specs.declared.Talker.{Talker}
-use Rattle.shared_bounds.specs.Traffic.{arrivals_of, frames_of, need_of, needs}
+use Rattle.shared_bounds.specs.Traffic.{arrivals_of, covered_by, covered_of, frames_of, need_of, needs}
 use Rattle.shared_bounds.specs.declared.ClassTraffic.{ClassTraffic}
 use Rattle.premises.specs.Runs.{IsTaken, scheduled}
 use Rattle.shared_claim.specs.SharedPremises.{CanShare, SharedRunsExist, frames_to}
@@ -71,6 +74,26 @@ conforms ps need g true le = record {
     short zero f e = subst (λ (y : Came). occupancy_of ps y.frame.len ≤ need) (same_Some g f e) le
     short (suc k) f e = absurd (none_here k f e)
 
+no_less : (s q : ℕ) → s ≤ s * (q + 1)
+no_less s q = (let parts : s * (q + 1) ≡ s * q + s = grind arith in omega (arith, parts))
+
+covers : (ps need pitch : ℕ) (g : Came) (b : Bool) → 0 < pitch → occupancy_of ps g.frame.len ≤ need
+    → CoverUpTo ps pitch (slot_curve need pitch (flows_of (one_talker need ∷ []))) (cond b (g ∷ []) [])
+covers ps need pitch g false some le k n f h e i = absurd (none_here k f e)
+covers ps need pitch g true some le (suc k) n f h e i = absurd (none_here k f e)
+covers ps need pitch g true some le zero (suc n) f h e i =
+    let next : 0 + suc n ≡ suc n = omega arith in
+    absurd (none_here n h (sym (ap (slice_get (g ∷ [])) next) ∙ i))
+covers ps need pitch g true some le zero zero f h e i =
+    let x : ℕ = h.moment - f.moment in
+    let one = sum_by-cons (slots_for ps pitch) g [] in
+    let own = slots_rise (occupancy_of ps g.frame.len) need pitch some le in
+    let least : min need need ≡ need = omega arith in
+    let same = ap (λ d. slots_of d pitch) least in
+    let more = no_less (slots_of (min need need) pitch) ((x + 0) / 1) in
+    let all = sum_by-cons (λ flow. slots_of (min need flow.need) pitch * curve_of x flow) (sporadic_of (one_talker need)) (flows_of []) in
+    omega (arith, one, own, same, more, all)
+
 -- ---- a run of a port in which a frame comes alone
 
 abbrev alone : ℕ → Frame → Came
@@ -106,6 +129,7 @@ module _ (law : SharedRunsExist) (net : Network) (port class n : ℕ) (change : 
     within = (from, within);
     clock = le_refl greatest_moment;
     conform = λ j less own. one (is_class j (class_for (scheduled setup.ps setup.mtu setup.room change) f.priority)) j;
+    cover = λ j pitch less own some. one_covers pitch some (is_class j (class_for (scheduled setup.ps setup.mtu setup.room change) f.priority)) j;
     quiet = λ j less no. absurd (let z : false ≡ true = no in cc);
     others = λ j i k g less own listed no. absurd (let z : true ≡ false = no in cc);
   }
@@ -121,6 +145,12 @@ module _ (law : SharedRunsExist) (net : Network) (port class n : ℕ) (change : 
       one b j = subst (λ o. ConformTo setup.ps (need_of o) (λ x. frames_of o x) (cond b (alone m f ∷ []) []))
           (sym (at_last j (one_traffic (need_at net port f.len))))
           (conforms setup.ps (need_at net port f.len) (alone m f) b (le_refl (need_at net port f.len)))
+
+      one_covers : (pitch : ℕ) → 0 < pitch → (b : Bool) (j : ℕ)
+          → CoverUpTo setup.ps pitch (covered_by (traffic j) pitch j) (cond b (alone m f ∷ []) [])
+      one_covers pitch some b j = subst (λ o. CoverUpTo setup.ps pitch (λ x. covered_of o pitch x) (cond b (alone m f ∷ []) []))
+          (sym (at_last j (one_traffic (need_at net port f.len))))
+          (covers setup.ps (need_at net port f.len) pitch (alone m f) b some (le_refl (need_at net port f.len)))
 
   is_alone : IsAlone net port class n change h f m
   is_alone =

@@ -4,16 +4,17 @@ use Rattle.std.proofs.lemmas.Bool.{or_parts}
 use Rattle.abstract_port.specs.AbstractPort.{new_port}
 use Rattle.separation.specs.Traffic.{Came}
 use Rattle.any_traffic.specs.ArrivalCurve.{ConformTo}
+use Rattle.any_traffic.specs.SlotCurve.{CoverUpTo, slot_curve}
 use Rattle.any_traffic.specs.Runs.{IsOnePlan}
 use Rattle.any_traffic.specs.SharedRuns.{IsSharedInTime}
-use Rattle.any_traffic.specs.Sporadic.{curve_of_all}
+use Rattle.any_traffic.specs.Sporadic.{AreFlows, curve_of_all}
 use Rattle.any_traffic.proofs.ListLaws.{none_here, one_at}
 use Rattle.any_traffic.proofs.Offered.{are_part}
 use Rattle.any_traffic.proofs.PartLaws.{ArePart, part_at}
-use Rattle.shared_bounds.specs.Traffic.{arrivals_of, frames_of, needs}
+use Rattle.shared_bounds.specs.Traffic.{arrivals_of, covered_by, covered_of, frames_of, need_of, needs}
 use Rattle.shared_claim.specs.OtherClasses.{OthersLaw, TakesUpTo}
 use Rattle.shared_claim.specs.SharedClaim.{IsSharingRun, SharedClaim}
-use Rattle.network_claim.proofs.CurveLaws.{by_wait, conform}
+use Rattle.network_claim.proofs.CurveLaws.{by_wait, conform, cover}
 use Rattle.network_claim.proofs.Lengths.{need_of_stream}
 use Rattle.network_claim.specs.Network.{IsClassRun, Network, NetworkPort, PortRun, offered_at, queued_at}
 use Rattle.network_claim.specs.Priority.{IsByPriority, NeedsUpTo, PriorityPromise}
@@ -84,6 +85,19 @@ module _ (law : SharedClaim) (others_law : OthersLaw) (net : Network) (port clas
       (subst (λ flows. ConformTo setup.ps (needs (w.traffic j) j) (curve_of_all flows) (offered_at net port j r))
       (sym (w.talkers j t.0 own t.1)) keeps)
 
+  covers : (j pitch : ℕ) → j < 8 → w.beside j ≡ true → 0 < pitch
+      → CoverUpTo setup.ps pitch (covered_by (w.traffic j) pitch j) (offered_at net port j r)
+  covers j pitch less own some =
+      let size = (w.are).eight j own in
+      let t = one_at (w.traffic j) j (omega (arith, less, size)) in
+      let need : needs (w.traffic j) j ≡ (t.0).need = ap need_of t.1 in
+      let keeps : CoverUpTo setup.ps pitch (slot_curve (t.0).need pitch (map (talker_at net port) (net.hops port j))) (offered_at net port j r)
+      = cover net port j r nominal asked.moments (run_of j own) (asked.long j (w.sooner j own).0) (within j own) (t.0).need
+      (subst (λ d. AreFlows d (map (talker_at net port) (net.hops port j))) need (w.flows j own)) pitch some in
+      subst (λ o. CoverUpTo setup.ps pitch (λ x. covered_of o pitch x) (offered_at net port j r)) (sym t.1)
+      (subst (λ flows. CoverUpTo setup.ps pitch (slot_curve (t.0).need pitch flows) (offered_at net port j r))
+      (sym (w.talkers j t.0 own t.1)) keeps)
+
   takes : (k need : ℕ) → NeedsUpTo net port k need → TakesUpTo setup.ps setup.mtu setup.room r.events k need
   takes k need (inl mine) m f e =
       let run = asked.runs k mine.0 in
@@ -105,6 +119,7 @@ module _ (law : SharedClaim) (others_law : OthersLaw) (net : Network) (port clas
     command = r.command;
     one = one_of;
     conform = conforms;
+    cover = covers;
     scheduled = λ j less own. ((run_of j own).run).scheduled;
     quiet = λ j less e. none_offered net port j r (asked.runs j (w.quiet j e).0) (w.quiet j e).1;
     others = λ j k x less own e other sends.

@@ -14,7 +14,7 @@ use Rattle.shared_bounds.specs.declared.ClassTraffic.{ClassTraffic}
 use Rattle.shared_bounds.specs.declared.Unbound.{Unbound}
 use Rattle.shared_bounds.specs.declared.Unbound.TheVariants.{Blocked, Long, Memory, Stuck}
 
-module _ (plan : Plan) (class : ℕ) (need blocking : ℕ → ℕ) (pitch : ℕ) (curve : ℕ → ℕ) (curves : ℕ → ℕ → ℕ) (higher : List ℕ) where
+module _ (plan : Plan) (class : ℕ) (need blocking : ℕ → ℕ) (pitch : ℕ) (curve : ℕ → ℕ) (curves : ℕ → ℕ → ℕ → ℕ) (higher : List ℕ) where
   -- Bounds that hold in the busy period from each moment on, by slots of a pitch: so they hold in every run (`SharedBusyLaw`).
   abbrev pub AreBusyBounds : (wait most : ℕ) → Type 0
   AreBusyBounds wait most = (t : ℕ) → IsSharedBusyPeriod plan class need blocking pitch curve curves higher wait most t

@@ -46,4 +46,4 @@ own_slots c = slots_of (own_of c) c.pitch
 
 -- how many those of the higher classes cover that may start within a time
 abbrev pub above_of : SharedClass → ℕ → ℕ
-above_of c = slots_above (needs c.traffic.now) c.pitch (start_curves c.traffic.now) c.higher.now
+above_of c = slots_above c.pitch (start_curves c.traffic.now) c.higher.now

@@ -1,7 +1,9 @@
 -- What is known of the classes: how long their frames are, how many come, and how many start.
 use Rattle.std.specs.Prelude.{◌<◌, ◌^◌, ℕ, List, Option, Some, None, slice_get, All}
+use Rattle.any_traffic.specs.SharedSlots.{slots_of}
+use Rattle.any_traffic.specs.SlotCurve.{slot_curve}
 use Rattle.any_traffic.specs.StartCurve.{start_curve}
-use Rattle.burst_bounds.specs.Talkers.{IsTalker, curve}
+use Rattle.burst_bounds.specs.Talkers.{IsTalker, curve, flows_of}
 use Rattle.shared_bounds.specs.declared.ClassTraffic.{ClassTraffic}
 
 -- the talkers are such, and the times are no longer than any that is looked at
@@ -26,10 +28,19 @@ frames_of (Some t) x = curve t.talkers.now x
 abbrev pub arrivals_of : List ClassTraffic → ℕ → ℕ → ℕ
 arrivals_of traffic j x = frames_of (slice_get traffic j) x
 
--- the most that start from a moment to one that is y later, by the class's bounds
-abbrev pub starts_of : Option ClassTraffic → ℕ → ℕ
-starts_of None y = 0
-starts_of (Some t) y = start_curve (curve t.talkers.now) t.bounds.most t.bounds.wait y
+-- how many slots that are a pitch apart these cover at most, each as many as a frame of its talker
+abbrev pub covered_of : Option ClassTraffic → (pitch x : ℕ) → ℕ
+covered_of None pitch x = 0
+covered_of (Some t) pitch x = slot_curve t.need pitch (flows_of t.talkers.now) x
 
-abbrev pub start_curves : List ClassTraffic → ℕ → ℕ → ℕ
-start_curves traffic j y = starts_of (slice_get traffic j) y
+abbrev pub covered_by : List ClassTraffic → (pitch j x : ℕ) → ℕ
+covered_by traffic pitch j x = covered_of (slice_get traffic j) pitch x
+
+-- and how many those cover that start from a moment to one that is y later, by the class's bounds
+abbrev pub starts_of : Option ClassTraffic → (pitch y : ℕ) → ℕ
+starts_of None pitch y = 0
+starts_of (Some t) pitch y =
+    start_curve (slots_of t.need pitch) (slot_curve t.need pitch (flows_of t.talkers.now)) t.bounds.most t.bounds.wait y
+
+abbrev pub start_curves : List ClassTraffic → (pitch j y : ℕ) → ℕ
+start_curves traffic pitch j y = starts_of (slice_get traffic j) pitch y

@@ -23,13 +23,13 @@ module _ (plan : Plan) (class : ℕ) (need : ℕ → ℕ) where
     IsLateIn t count = (n s : ℕ) × (n < count)
         × IsSharedSlot (may_by plan class) (need class) pitch (blocking plan class need) t n s × (2 ^ 72 < s)
 
-    module _ (curve : ℕ → ℕ) (curves : ℕ → ℕ → ℕ) (higher : List ℕ) where
+    module _ (curve : ℕ → ℕ) (curves : ℕ → ℕ → ℕ → ℕ) (higher : List ℕ) where
       -- The busy period from t on does not end within so many slots: at each that is one for all frames that come within a time, a further
       -- one can come before the last has ended.
       abbrev pub IsBusyIn : (t count : ℕ) → Type 0
       IsBusyIn t count =
           (last n s : ℕ) → n < count → IsSharedSlot (may_by plan class) (need class) pitch (blocking plan class need) t n s
-          → slots_of (need class) pitch * (curve last - 1) + slots_above need pitch curves higher (s - t) ≤ n
+          → slots_of (need class) pitch * (curve last - 1) + slots_above pitch curves higher (s - t) ≤ n
           → t + last + 1 < s + need class
 
       -- From some moment on the busy period has more than so many slots, or lasts until behind the latest moment that is looked at.

@@ -1,8 +1,9 @@
-//! How many frames of the higher classes may start within a time.
+//! How many slots the frames of the higher classes may cover that start within a time.
 
 ghost use Rattle.std.specs.Prelude.{◌≡◌, ℕ, ◌<◌, ◌≤◌, ◌+◌, ◌-◌, ◌*◌, ◌^◌, All, min, length};
 ghost use Rattle.any_traffic.specs.SharedSlots.{slots_of};
-ghost use Rattle.burst_bounds.specs.Talkers.{curve, IsTalker};
+ghost use Rattle.any_traffic.specs.SlotCurve.{slot_curve};
+ghost use Rattle.burst_bounds.specs.Talkers.{flows_of, IsTalker};
 ghost use Rattle.shared_bounds.specs.Place.{IsPlace, above_of, own_slots};
 ghost use Rattle.shared_bounds.specs.Traffic.{IsTraffic, needs, starts_of};
 
@@ -11,30 +12,47 @@ use crate::place::SharedClass;
 use burst_bounds::Talker;
 use wire_time::CLASSES;
 
-/// How many frames of talkers come within a time at most, or a limit, where they are more.
-fn frames_within(talkers: &[Talker], time: u128, limit: u128) -> u128
-    requires talkers { All IsTalker talkers.now }
-    requires time { time < 2 ^ 101 }
-    requires limit { limit < 2 ^ 100 }
-    ensures { result ≡ min (curve talkers.now time) limit }
+/// How many slots that are a pitch apart a frame covers at most that needs the wire for so long.
+fn slots_for(need: u128, pitch: u128) -> u128
+    requires need { need < 2 ^ 60 }
+    requires pitch { (0 < pitch) × (pitch < 2 ^ 60) }
+    ensures slots { result ≡ slots_of need pitch }
+    ensures few { result < 2 ^ 61 }
 {
-    let mut frames = 0;
-    for talker in talkers {
-        frames = (frames + (time + talker.jitter) / talker.period + 1).min(limit);
-    }
-    frames.min(limit)
+    (need + (pitch - 1)) / pitch
 }
 
-/// How many frames of a class start within a time at most, or a limit.
-fn starts_within(one: &ClassTraffic<'_>, time: u128, limit: u128) -> u128
-    requires traffic { IsTraffic one.now }
-    requires time { time < 2 ^ 100 }
-    requires limit { limit < 2 ^ 99 }
-    ensures { result ≡ min (starts_of (Some one.now) time) limit }
+/// How many slots the frames of talkers cover at most that come within a time, or a limit, where they are more. None of
+/// them needs the wire for longer than `need`.
+fn slots_within(talkers: &[Talker], need: u128, pitch: u128, time: u128, limit: u128) -> u128
+    requires talkers { All IsTalker talkers.now }
+    requires need { need < 2 ^ 60 }
+    requires pitch { (0 < pitch) × (pitch < 2 ^ 60) }
+    requires time { time < 2 ^ 101 }
+    requires limit { limit ≤ 2 ^ 64 }
+    ensures { result ≡ min (slot_curve need pitch (flows_of talkers.now) time) limit }
 {
-    let new = one.bounds.most as u128 + frames_within(one.talkers, time, limit);
-    let all = frames_within(one.talkers, time + one.bounds.wait, limit);
-    new.min(all)
+    let mut slots = 0;
+    for talker in talkers {
+        let each = slots_for(talker.need.min(need), pitch);
+        let frames = ((time + talker.jitter) / talker.period + 1).min(limit);
+        slots = (slots + each * frames).min(limit);
+    }
+    slots
+}
+
+/// How many slots the frames of a class cover at most that start within a time, or a limit.
+fn starts_within(one: &ClassTraffic<'_>, pitch: u128, time: u128, limit: u128) -> u128
+    requires traffic { IsTraffic one.now }
+    requires pitch { (0 < pitch) × (pitch < 2 ^ 60) }
+    requires time { time < 2 ^ 100 }
+    requires limit { limit ≤ 2 ^ 64 }
+    ensures { result ≡ min (starts_of (Some one.now) pitch time) limit }
+{
+    let waiting = slots_for(one.need, pitch) * one.bounds.most as u128;
+    let new = slots_within(one.talkers, one.need, pitch, time, limit);
+    let all = slots_within(one.talkers, one.need, pitch, time + one.bounds.wait, limit);
+    (waiting + new).min(all)
 }
 
 impl SharedClass<'_, '_, '_> {
@@ -45,10 +63,10 @@ impl SharedClass<'_, '_, '_> {
         ensures slots { result ≡ slots_of (needs self.now.traffic.now class) self.now.pitch }
         ensures few { result < 2 ^ 61 }
     {
-        (self.need_of(class) + (self.pitch - 1)) / self.pitch
+        slots_for(self.need_of(class), self.pitch)
     }
 
-    /// How many slots the frames of the higher classes cover that start within a time at most, or a limit.
+    /// How many slots the frames of the higher classes cover at most that start within a time, or a limit.
     fn above_within(&self, time: u128, limit: u128) -> u128
         requires place { IsPlace self.now }
         requires time { time < 2 ^ 100 }
@@ -57,8 +75,8 @@ impl SharedClass<'_, '_, '_> {
     {
         let mut slots = 0;
         for class in self.higher {
-            let starts = starts_within(&self.traffic[*class as usize], time, limit);
-            slots = (slots + self.slots_of(*class) * starts).min(limit);
+            let starts = starts_within(&self.traffic[*class as usize], self.pitch, time, limit);
+            slots = (slots + starts).min(limit);
         }
         slots
     }

@@ -260,8 +260,8 @@ fn wants_more(found: Result<Bounds, Unbound>) -> bool
 /// time from a frame's arrival to its start, and the most frames that ever wait at once.
 ///
 /// `traffic` says what is known of each class, 0 to 7. A frame of any other class that has begun may be in the way, and
-/// of the higher ones that share windows with the class as many go first as their talkers and their bounds let start. So
-/// classes are judged from the highest down. A higher one that has no bounds leaves those that share with it without
+/// of the higher ones that share windows with the class as many go first as their talkers and their bounds let start,
+/// each as long as those of its talker. So classes are judged from the highest down. A higher one that has no bounds leaves those that share with it without
 /// (`sharing::shares_windows`).
 ///
 /// The bounds are by slots, and a frame covers as many as it is long. As far apart as a frame of the class, or of a higher

@@ -36,6 +36,20 @@ const CONTROL: [Talker; 1] = [Talker {
     jitter: 0,
 }];
 
+/// Frames of 100 octets each 1 us, and seldom one of 726.
+const MIXED: [Talker; 2] = [
+    Talker {
+        need: 9_920,
+        period: 1_000_000,
+        jitter: 0,
+    },
+    Talker {
+        need: 60_000,
+        period: 5_000_000,
+        jitter: 0,
+    },
+];
+
 /// Frames of 226 octets, each 1 us and each 700 ns, these late by up to 400 ns.
 const AUDIO: [Talker; 2] = [
     Talker {
@@ -143,6 +157,34 @@ fn bounds_are_the_least(rt: HostRuntime) {
     );
     assert_eq!(rt;
         differs(alloc, &plan, 6, &traffic(&FAST, judged), Err(Unbound::Long)),
+        ""
+    );
+}
+
+#[test]
+fn a_higher_frame_counts_by_its_talker(rt: HostRuntime) {
+    let alloc = rt.alloc();
+    let plan = schedule().expect(&rt, "a schedule");
+    let mixed = ClassTraffic {
+        need: 60_000,
+        talkers: &MIXED,
+        bounds: NONE,
+    };
+    let bounds = Bounds {
+        wait: 859_997,
+        most: 2,
+    };
+    assert_eq!(rt;
+        differs(alloc, &plan, 7, &traffic(&AUDIO, mixed), Ok(bounds)),
+        ""
+    );
+    let judged = ClassTraffic { bounds, ..mixed };
+    let want = Ok(Bounds {
+        wait: 243_039,
+        most: 2,
+    });
+    assert_eq!(rt;
+        differs(alloc, &plan, 6, &traffic(&AUDIO, judged), want),
         ""
     );
 }

@@ -1,5 +1,6 @@
 -- The claim, from the laws of every run: class by class, from the highest down.
-use Rattle.std.proofs.Common.{◌≡◌, ◌<◌, ◌≤◌, ◌⊎◌, inl, inr, ℕ, zero, suc, ◌+◌, ◌-◌, Bool, true, false, not, List, slice_get, Some, refl, sym, ap, ◌∙◌, subst, arith}
+use Rattle.std.proofs.Common.{◌≡◌, ◌<◌, ◌≤◌, ◌⊎◌, inl, inr, ℕ, zero, suc, ◌+◌, ◌-◌, Bool, true, false, not, List, slice_get, Some, IfSome, refl, sym, ap, ◌∙◌, subst, arith}
+use Rattle.std.proofs.Math.Nat.{mul-le-mul_right}
 use Rattle.std.proofs.lemmas.Bool.{cases_Bool}
 use Rattle.gate_list.specs.Gate.{Plan}
 use Rattle.abstract_port.specs.AbstractPort.{AbstractPort, new_port}
@@ -10,19 +11,20 @@ use Rattle.abstract_port.specs.declared.Start.{Start}
 use Rattle.separation.specs.Traffic.{Came, offered_in, queued_in}
 use Rattle.any_traffic.specs.Runs.{IsScheduledRun, offered, queued, started}
 use Rattle.any_traffic.specs.SharedRuns.{IsSharedInTime, KeepStartCurve}
+use Rattle.any_traffic.specs.SharedSlots.{slots_of}
 use Rattle.any_traffic.specs.StartCurve.{start_curve}
 use Rattle.any_traffic.proofs.ListLaws.{none_here, one_at}
 use Rattle.any_traffic.proofs.Offered.{are_part}
 use Rattle.any_traffic.proofs.PartLaws.{part_at}
+use Rattle.any_traffic.proofs.SharedSlots.{slots_rise}
 use Rattle.any_traffic.proofs.Sharing.{shared_run}
 use Rattle.any_traffic.proofs.StartCurveLaws.{start_curve_law}
 use Rattle.any_traffic.proofs.StartLaws.{class_of, class_one, long_at}
-use Rattle.burst_bounds.specs.Talkers.{curve}
 use Rattle.burst_bounds.specs.declared.Bounds.{Bounds}
-use Rattle.shared_bounds.specs.Traffic.{arrivals_of, frames_of, needs, start_curves, starts_of}
+use Rattle.shared_bounds.specs.Traffic.{IsTraffic, covered_by, covered_of, need_of, needs, start_curves, starts_of}
 use Rattle.shared_bounds.specs.declared.ClassTraffic.{ClassTraffic}
 use Rattle.shared_bounds.proofs.RunLaws.{least_law}
-use Rattle.shared_bounds.proofs.TrafficLaws.{arrivals_rise}
+use Rattle.shared_bounds.proofs.TrafficLaws.{all_known, covered_rises, slots_go_up}
 use Rattle.shared_claim.specs.OtherClasses.{TakesUpTo}
 use Rattle.shared_claim.specs.SharedClaim.{AreJudged, IsHigher, IsSharingRun, SharedClaim}
 use Rattle.shared_claim.proofs.OtherLaws.{others_law}
@@ -104,50 +106,68 @@ module _ (plan : Plan) (traffic : ℕ → List ClassTraffic) (bounds : ℕ → B
 
   -- ---- from the highest class down
 
-  -- the starts of a higher class whose bounds hold keep the start curve that is known of it
+  -- the starts of a higher class whose bounds hold keep the start curves that are known of it
   keeps : (class j : ℕ) (t : ClassTraffic) → judged class ≡ true → IsHigher plan class j → judged j ≡ true
-      → slice_get (traffic class) j ≡ Some t → IsKept j → KeepStartCurve (start_curves (traffic class) j) (started ps mtu room j events)
-  keeps class j t own above is_judged e held = subst (λ o. KeepStartCurve (λ y. starts_of o y) (started ps mtu room j events)) (sym e)
+      → slice_get (traffic class) j ≡ Some t → IsKept j → (pitch : ℕ) → 0 < pitch
+      → KeepStartCurve pitch (start_curves (traffic class) pitch j) (started ps mtu room j events)
+  keeps class j t own above is_judged e held pitch some =
+      subst (λ o. KeepStartCurve pitch (λ y. starts_of o pitch y) (started ps mtu room j events)) (sym e)
       (record {
         rises = λ x y le.
-            let a = kept.rises x y le in
-            let b = same x in
-            let c = same y in
-            omega (arith, a, b, c);
+            let a = slots_go_up t known pitch x y le in
+            let b = slots_go_up t known pitch (x + t.bounds.wait) (y + t.bounds.wait) (omega (arith, le)) in
+            omega (arith, a, b);
         few = λ k n x y f g.
             let a = kept.few k n x y f g in
-            let b = same (y.at - x.at) in
+            let b = no_more (y.at - x.at) in
             omega (arith, a, b);
       })
     where
-      kept : KeepStartCurve (start_curve (arrivals_of (traffic j) j) (bounds j).most (bounds j).wait) (started ps mtu room j events)
-      kept = start_curve_law ps mtu room j (needs (traffic j) j) (bounds j).wait (bounds j).most (arrivals_of (traffic j) j) r.command plan events
-          (run_of j above.1 is_judged) (r.conform j above.1 is_judged) (arrivals_rise (traffic j) (is.known j is_judged) j) held
+      known : IsTraffic t
+      known = subst (λ o. IfSome o IsTraffic) e (all_known (traffic class) (is.known class own) j)
 
-      come : (x : ℕ) → curve t.talkers.now x ≡ arrivals_of (traffic j) j x
-      come x = sym (ap (λ o. frames_of o x) e) ∙ is.come class j x own above is_judged
+      own_need : ℕ
+      own_need = needs (traffic j) j
 
-      same : (y : ℕ) → starts_of (Some t) y ≡ start_curve (arrivals_of (traffic j) j) (bounds j).most (bounds j).wait y
-      same y =
+      kept : KeepStartCurve pitch (start_curve (slots_of own_need pitch) (covered_by (traffic j) pitch j) (bounds j).most (bounds j).wait)
+          (started ps mtu room j events)
+      kept = start_curve_law ps mtu room j own_need pitch (bounds j).wait (bounds j).most (covered_by (traffic j) pitch j) r.command plan events
+          (run_of j above.1 is_judged) some (r.conform j above.1 is_judged).short (r.cover j pitch above.1 is_judged some)
+          (covered_rises (traffic j) (is.known j is_judged) pitch j) held
+
+      come : (x : ℕ) → covered_by (traffic j) pitch j x ≤ covered_of (Some t) pitch x
+      come x =
+          let all = is.come class j pitch x own above is_judged some in
+          let here = ap (λ o. covered_of o pitch x) e in
+          omega (arith, all, here)
+
+      no_more : (y : ℕ) → start_curve (slots_of own_need pitch) (covered_by (traffic j) pitch j) (bounds j).most (bounds j).wait y
+          ≤ starts_of (Some t) pitch y
+      no_more y =
           let bound = is.bound class j t own above is_judged e in
           let a = come y in
           let b = come (y + t.bounds.wait) in
-          subst (λ (c : Bounds). starts_of (Some t) y ≡ start_curve (arrivals_of (traffic j) j) c.most c.wait y) bound (omega (arith, a, b))
+          let need = is.need class j own is_judged in
+          let here = ap need_of e in
+          let longest = slots_rise own_need t.need pitch some (omega (arith, need, here)) in
+          let waiting = mul-le-mul_right t.bounds.most longest in
+          subst (λ (c : Bounds). start_curve (slots_of own_need pitch) (covered_by (traffic j) pitch j) c.most c.wait y ≤ starts_of (Some t) pitch y)
+          bound (omega (arith, a, b, waiting))
 
   -- so do those of one of which nothing comes: there are none
   quiet_keeps : (class j : ℕ) (t : ClassTraffic) → class < 8 → judged class ≡ true → silent j ≡ true → slice_get (traffic class) j ≡ Some t
-      → KeepStartCurve (start_curves (traffic class) j) (started ps mtu room j events)
-  quiet_keeps class j t less own quiet e = subst (λ o. KeepStartCurve (λ y. starts_of o y) (started ps mtu room j events)) (sym e)
+      → (pitch : ℕ) → KeepStartCurve pitch (start_curves (traffic class) pitch j) (started ps mtu room j events)
+  quiet_keeps class j t less own quiet e pitch = subst (λ o. KeepStartCurve pitch (λ y. starts_of o pitch y) (started ps mtu room j events)) (sym e)
       (record {
         rises = λ x y le.
-            let a = rises x y le in
-            let b = rises (x + t.bounds.wait) (y + t.bounds.wait) (omega (arith, le)) in
+            let a = slots_go_up t known pitch x y le in
+            let b = slots_go_up t known pitch (x + t.bounds.wait) (y + t.bounds.wait) (omega (arith, le)) in
             omega (arith, a, b);
         few = λ k n x y f g. absurd (none_starts class less own j quiet k x f);
       })
     where
-      rises : (x y : ℕ) → x ≤ y → curve t.talkers.now x ≤ curve t.talkers.now y
-      rises = subst (λ o. (x y : ℕ) → x ≤ y → frames_of o x ≤ frames_of o y) e (arrivals_rise (traffic class) (is.known class own) j)
+      known : IsTraffic t
+      known = subst (λ o. IfSome o IsTraffic) e (all_known (traffic class) (is.known class own) j)
 
   in_time : (n class : ℕ) → 8 ≤ class + n → class < 8 → judged class ≡ true → IsKept class
   in_time zero class far less j = absurd (omega (arith, far, less))
@@ -159,19 +179,20 @@ module _ (plan : Plan) (traffic : ℕ → List ClassTraffic) (bounds : ℕ → B
         run = run_of class less j;
         short = short class less j;
         conform = r.conform class less j;
-        above = λ i k at.
+        above = λ pitch i k some at.
             let share = least.share in
             let up = share.above i k at in
             let listed = share.listed i k at in
             let one = one_at (traffic class) k (omega (arith, listed, size)) in
             by k one.0 (up, listed, share.share i k at) one.1 (is.higher class k j (up, listed, share.share i k at))
-            (λ other. in_time n k (omega (arith, far, up)) listed other);
+            (λ other. in_time n k (omega (arith, far, up)) listed other) pitch some;
       })
     where
       by : (k : ℕ) (t : ClassTraffic) → IsHigher plan class k → slice_get (traffic class) k ≡ Some t → (judged k ≡ true) ⊎ (silent k ≡ true)
-          → (judged k ≡ true → IsKept k) → KeepStartCurve (start_curves (traffic class) k) (started ps mtu room k events)
-      by k t above e (inl other) held = keeps class k t j above other e (held other)
-      by k t above e (inr quiet) held = quiet_keeps class k t less j quiet e
+          → (judged k ≡ true → IsKept k) → (pitch : ℕ) → 0 < pitch
+          → KeepStartCurve pitch (start_curves (traffic class) pitch k) (started ps mtu room k events)
+      by k t above e (inl other) held pitch some = keeps class k t j above other e (held other) pitch some
+      by k t above e (inr quiet) held pitch some = quiet_keeps class k t less j quiet e pitch
 
 pub shared : SharedClaim
 shared plan traffic bounds judged silent is ps mtu room events r class less j =

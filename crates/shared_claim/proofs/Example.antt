@@ -1,7 +1,8 @@
 -- A schedule that opens all gates for 600 us of each ms, and none for the rest. The classes 5, 6 and 7 are judged; a frame of each of the eight
 -- comes.
-use Rattle.std.proofs.Common.{◌≡◌, ◌<◌, ◌≤◌, ◌⊎◌, inl, inr, ℕ, zero, suc, ◌+◌, ◌-◌, ◌*◌, ◌%◌, Bool, true, false, cond, ◌&&◌, not, eqb, leb, ltb, List, [], ◌∷◌, All, slice_get, Some, None, refl, sym, ap, ◌∙◌, subst, arith, le_refl}
+use Rattle.std.proofs.Common.{◌≡◌, ◌<◌, ◌≤◌, ◌⊎◌, inl, inr, ℕ, zero, suc, ◌+◌, ◌-◌, ◌*◌, ◌/◌, ◌%◌, Bool, true, false, cond, ◌&&◌, not, eqb, leb, ltb, List, [], ◌∷◌, All, slice_get, Some, None, refl, sym, ap, ◌∙◌, subst, arith, le_refl}
 use Rattle.std.proofs.lemmas.Bool.{and_parts, both_ways, cases_Bool, cases_lt, false≢true, leb-true, ltb-true}
+use Rattle.std.proofs.lemmas.List.Sums.{sum_by-cons}
 use Rattle.std.proofs.lemmas.Option.{same_Some}
 use Rattle.wire_time.specs.Wire.{occupancy_of, sdu_of}
 use Rattle.wire_time.specs.declared.Frame.{Frame}
@@ -14,14 +15,16 @@ use Rattle.delay_bounds.specs.Walk.{may_by}
 use Rattle.any_traffic.specs.ArrivalCurve.{ConformTo}
 use Rattle.any_traffic.specs.SharedBounds.{slots_above}
 use Rattle.any_traffic.specs.SharedSlots.{IsBlocking, slots_of}
+use Rattle.any_traffic.specs.SlotCurve.{CoverUpTo, slot_curve, slots_for}
+use Rattle.any_traffic.specs.StartCurve.{start_curve}
 use Rattle.any_traffic.proofs.ListLaws.{none_here}
-use Rattle.burst_bounds.specs.Talkers.{IsTalker, curve}
+use Rattle.burst_bounds.specs.Talkers.{IsTalker, curve, flows_of}
 use Rattle.burst_bounds.specs.declared.Bounds.{Bounds}
 use Rattle.burst_bounds.specs.declared.Talker.{Talker}
 use Rattle.shared_bounds.specs.Blocking.{blocking}
 use Rattle.shared_bounds.specs.Least.{AreLeastOf, AreNoMoreBy, HoldBy, IsLeastBlocking}
 use Rattle.shared_bounds.specs.Sharing.{AreHigher, IsPitch, Share}
-use Rattle.shared_bounds.specs.Traffic.{IsTraffic, arrivals_of, frames_of, need_of, needs, start_curves}
+use Rattle.shared_bounds.specs.Traffic.{IsTraffic, arrivals_of, covered_by, covered_of, need_of, needs, start_curves}
 use Rattle.shared_bounds.specs.declared.ClassTraffic.{ClassTraffic}
 use Rattle.shared_bounds.proofs.RunLaws.{blocking_law}
 use Rattle.shared_bounds.proofs.TrafficLaws.{none_past}
@@ -324,13 +327,16 @@ one_slot : slots_of 1136000 1136000 ≡ 1
 unfolding slots_of
 one_slot = omega arith
 
-few_five : (y : ℕ) → y < 500000000 → slots_above (needs (traffic 5)) 1136000 (start_curves (traffic 5)) (6 ∷ 7 ∷ []) y ≡ 2
-few_five y less = ap (λ w. 0 + w * start_curves (traffic 5) 6 y + w * start_curves (traffic 5) 7 y) one_slot ∙
-    (let e : 0 + 1 * start_curves (traffic 5) 6 y + 1 * start_curves (traffic 5) 7 y ≡ 2 = omega (arith, less) in e)
+-- the start curve of a class, where a frame covers w
+abbrev start_of : (w wait : ℕ) → ℕ → ℕ
+start_of w wait = start_curve w (λ x. 0 + w * ((x + 0) / 1000000000 + 1)) 1 wait
 
-few_six : (y : ℕ) → y < 500000000 → slots_above (needs (traffic 6)) 1136000 (start_curves (traffic 6)) (7 ∷ []) y ≡ 1
-few_six y less = ap (λ w. 0 + w * start_curves (traffic 6) 7 y) one_slot ∙
-    (let e : 0 + 1 * start_curves (traffic 6) 7 y ≡ 1 = omega (arith, less) in e)
+few_five : (y : ℕ) → y < 500000000 → slots_above 1136000 (start_curves (traffic 5)) (6 ∷ 7 ∷ []) y ≡ 2
+few_five y less = ap (λ w. 0 + start_of w (bounds 6).wait y + start_of w (bounds 7).wait y) one_slot ∙
+    (let e : 0 + start_of 1 (bounds 6).wait y + start_of 1 (bounds 7).wait y ≡ 2 = omega (arith, less) in e)
+
+few_six : (y : ℕ) → y < 500000000 → slots_above 1136000 (start_curves (traffic 6)) (7 ∷ []) y ≡ 1
+few_six y less = ap (λ w. 0 + start_of w (bounds 7).wait y) one_slot ∙ (let e : 0 + start_of 1 (bounds 7).wait y ≡ 1 = omega (arith, less) in e)
 
 -- bounds by that pitch are the least, where no class that shares needs the wire for another time
 module _ (class wait : ℕ) (higher : List ℕ) (share : AreHigher plan class higher)
@@ -415,7 +421,14 @@ are_judged = record {
       let up = above.0 in
       let listed = above.1 in
       inl (grind (arith, from, up, listed));
-  come = λ class j x e above own. ap (λ o. frames_of o x) (at class j above.1) ∙ sym (ap (λ o. frames_of o x) (at j j above.1));
+  come = λ class j pitch x e above own some.
+      let up = above.0 in
+      let same : leb j j ≡ true = grind arith in
+      let below : leb class j ≡ true = grind (arith, up) in
+      let a = ap (λ o. covered_of o pitch x) (at class j above.1) in
+      let b = ap (λ o. covered_of o pitch x) (at j j above.1) in
+      let c = ap (λ k. slot_curve (cond k 1136000 12336000) pitch (flows_of (cond (leb 5 j) talkers [])) x) (below ∙ sym same) in
+      omega (arith, a, b, c);
   bound = λ class j t e above own is. ap (λ (u : ClassTraffic). u.bounds) (same_Some t (entry class j) (sym is ∙ at class j above.1));
   need = λ class j e f.
       let listed = (is_judged j f).1 in
@@ -492,6 +505,28 @@ conforms = each_judged (λ c. ConformTo 8000 (needs (traffic c) c) (arrivals_of 
     (one_conforms 1136000 (curve talkers) (sent 3 6) (omega arith) some_come)
     (one_conforms 1136000 (curve talkers) (sent 5 7) (omega arith) some_come)
 
+one_covers : (pitch : ℕ) (few : ℕ → ℕ) (f : Came) → ((x : ℕ) → slots_for 8000 pitch f ≤ few x) → CoverUpTo 8000 pitch few (f ∷ [])
+one_covers pitch few f some zero zero g h e i =
+    let all = sum_by-cons (slots_for 8000 pitch) f [] in
+    let most = some (h.moment - g.moment) in
+    omega (arith, all, most)
+one_covers pitch few f some zero (suc n) g h e i =
+    let next : 0 + suc n ≡ suc n = omega arith in
+    absurd (none_here n h (sym (ap (slice_get (f ∷ [])) next) ∙ i))
+one_covers pitch few f some (suc k) n g h e i = absurd (none_here k g e)
+
+some_covered : (pitch x : ℕ) → slots_of 1136000 pitch ≤ 0 + slots_of 1136000 pitch * ((x + 0) / 1000000000 + 1)
+some_covered pitch x =
+    let parts : slots_of 1136000 pitch * ((x + 0) / 1000000000 + 1) ≡ slots_of 1136000 pitch * ((x + 0) / 1000000000) + slots_of 1136000 pitch
+    = grind arith in
+    omega (arith, parts)
+
+covers : (pitch class : ℕ) → judged class ≡ true → CoverUpTo 8000 pitch (covered_by (traffic class) pitch class) (frames_to base class came)
+covers pitch = each_judged (λ c. CoverUpTo 8000 pitch (covered_by (traffic c) pitch c) (frames_to base c came))
+    (one_covers pitch (covered_by (traffic 5) pitch 5) (sent 1 5) (some_covered pitch))
+    (one_covers pitch (covered_by (traffic 6) pitch 6) (sent 3 6) (some_covered pitch))
+    (one_covers pitch (covered_by (traffic 7) pitch 7) (sent 5 7) (some_covered pitch))
+
 -- a frame of a class that isn't judged is no longer than is known
 is_long : (class j place k : ℕ) (f : Came) → 5 ≤ class → j < 5 → occupancy_of 8000 (sent place j).frame.len ≡ 12336000
     → slice_get (sent place j ∷ []) k ≡ Some f → occupancy_of 8000 f.frame.len ≤ needs (traffic class) j
@@ -526,6 +561,7 @@ can_share = record {
   within = within;
   clock = omega arith;
   conform = λ class less e. conforms class e;
+  cover = λ class pitch less e some. covers pitch class e;
   quiet = λ class less e. absurd (false≢true e);
   others = λ class j k f less e listed other sends there. others class j k f (is_judged class e).0 listed other there;
 }

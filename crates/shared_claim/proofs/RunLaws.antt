@@ -23,10 +23,11 @@ use Rattle.separation.specs.Traffic.{Came, IsOnly, offered_as, offered_by, offer
 use Rattle.separation.proofs.Lives.{starts_until_live}
 use Rattle.separation.proofs.Lockstep.{live, tick, with_moment}
 use Rattle.any_traffic.specs.ArrivalCurve.{ConformTo}
+use Rattle.any_traffic.specs.SlotCurve.{CoverUpTo}
 use Rattle.any_traffic.specs.Runs.{AreScheduled, IsOnePlan, end_of_run, offered}
 use Rattle.any_traffic.proofs.Offered.{are_part}
 use Rattle.any_traffic.proofs.PartLaws.{part_at}
-use Rattle.shared_bounds.specs.Traffic.{arrivals_of, needs}
+use Rattle.shared_bounds.specs.Traffic.{arrivals_of, covered_by, needs}
 use Rattle.shared_bounds.specs.declared.ClassTraffic.{ClassTraffic}
 use Rattle.premises.specs.Runs.{IsTaken, in_force_from, scheduled}
 use Rattle.shared_claim.specs.OtherClasses.{TakesUpTo}
@@ -250,6 +251,8 @@ module _ (ps mtu room : ℕ) (change : Change) (traffic : ℕ → List ClassTraf
     one = one;
     conform = λ class less j. subst (λ xs. ConformTo ps (needs (traffic class) class)
         (arrivals_of (traffic class) class) xs) (sym (offers class)) (c.conform class less j);
+    cover = λ class pitch less j some. subst (CoverUpTo ps pitch (covered_by (traffic class) pitch class)) (sym (offers class))
+        (c.cover class pitch less j some);
     scheduled = λ class less j. since class;
     quiet = λ class less quiet. offers class ∙ c.quiet class less quiet;
     others = short;

@@ -17,12 +17,12 @@ not_both : (a b : Bool) → b ≡ false → (a && b) ≡ false
 not_both true b e = e
 not_both false b e = refl
 
-module _ (plan : Plan) (class : ℕ) (need blocking : ℕ → ℕ) (pitch : ℕ) (curve : ℕ → ℕ) (curves : ℕ → ℕ → ℕ) (higher : List ℕ) (above : ℕ)
+module _ (plan : Plan) (class : ℕ) (need blocking : ℕ → ℕ) (pitch : ℕ) (curve : ℕ → ℕ) (curves : ℕ → ℕ → ℕ → ℕ) (higher : List ℕ) (above : ℕ)
     (two : above ≤ 2) (opened : (m d : ℕ) → m % 1000000000 + d ≤ 600000000 → may_by plan class m d ≡ true)
     (shut : (m d : ℕ) → 0 < d → 600000000 < m % 1000000000 + d → may_by plan class m d ≡ false) (own : need class ≡ 1136000)
     (even : pitch ≡ 1136000) (most : (t : ℕ) → blocking t ≤ 12335999) (none : (u : ℕ) → 0 < u → u % 1000000000 ≡ 0 → blocking u ≡ 0)
     (late : 12335999 ≤ blocking 586528002) (one : (x : ℕ) → x < 500000000 → curve x ≡ 1)
-    (few : (y : ℕ) → y < 500000000 → slots_above need pitch curves higher y ≡ above) where
+    (few : (y : ℕ) → y < 500000000 → slots_above pitch curves higher y ≡ above) where
   abbrev may : ℕ → ℕ → Bool
   may = may_by plan class
 

@@ -14,10 +14,11 @@ use Rattle.abstract_port.specs.declared.Start.{Start}
 use Rattle.any_traffic.specs.ArrivalCurve.{ConformTo}
 use Rattle.any_traffic.specs.Runs.{AreScheduled, IsOnePlan, offered}
 use Rattle.any_traffic.specs.SharedRuns.{IsSharedInTime}
+use Rattle.any_traffic.specs.SlotCurve.{CoverUpTo}
 use Rattle.burst_bounds.specs.declared.Bounds.{Bounds}
 use Rattle.shared_bounds.specs.Least.{AreLeastOf}
 use Rattle.shared_bounds.specs.Sharing.{Share}
-use Rattle.shared_bounds.specs.Traffic.{IsTraffic, arrivals_of, needs}
+use Rattle.shared_bounds.specs.Traffic.{IsTraffic, arrivals_of, covered_by, needs}
 use Rattle.shared_bounds.specs.declared.ClassTraffic.{ClassTraffic}
 
 -- 1. By the schedule alone
@@ -27,15 +28,15 @@ abbrev pub IsHigher : Plan → (class j : ℕ) → Type 0
 IsHigher plan class j = (class < j) × (j < 8) × Share plan class j
 
 -- Each class that is judged is so by its `traffic`: what is known of the eight classes. The higher ones that share windows with it are
--- judged, too, or send nothing; of those that are judged it is known how many frames come, and which bounds they have. No class that is
--- judged needs the wire for longer than is known of it where another one is. And the bounds of each are the least by what is known, where
--- some number of slots is looked at.
+-- judged, too, or send nothing; of those that are judged it is known how many slots at most the frames cover that come, and which bounds
+-- they have. No class that is judged needs the wire for longer than is known of it where another one is. And the bounds of each are the least
+-- by what is known, where some number of slots is looked at.
 pub record AreJudged (plan : Plan) (traffic : ℕ → List ClassTraffic) (bounds : ℕ → Bounds) (judged silent : ℕ → Bool) : Type 0 where
   pub eight : (class : ℕ) → judged class ≡ true → length (traffic class) ≡ 8
   pub known : (class : ℕ) → judged class ≡ true → All IsTraffic (traffic class)
   pub higher : (class j : ℕ) → judged class ≡ true → IsHigher plan class j → (judged j ≡ true) ⊎ (silent j ≡ true)
-  pub come : (class j x : ℕ) → judged class ≡ true → IsHigher plan class j → judged j ≡ true
-      → arrivals_of (traffic class) j x ≡ arrivals_of (traffic j) j x
+  pub come : (class j pitch x : ℕ) → judged class ≡ true → IsHigher plan class j → judged j ≡ true → 0 < pitch
+      → covered_by (traffic j) pitch j x ≤ covered_by (traffic class) pitch j x
   pub bound : (class j : ℕ) (t : ClassTraffic) → judged class ≡ true → IsHigher plan class j → judged j ≡ true
       → slice_get (traffic class) j ≡ Some t → t.bounds ≡ bounds j
   pub need : (class j : ℕ) → judged class ≡ true → judged j ≡ true → needs (traffic j) j ≤ needs (traffic class) j
@@ -45,15 +46,17 @@ pub record AreJudged (plan : Plan) (traffic : ℕ → List ClassTraffic) (bounds
 -- 2. In a run
 
 -- One schedule is accepted, and no other command. Of each class that is judged, the frames that its queue is offered conform to the arrival
--- curve of its talkers, and each needs the wire for no longer than is known. None of them comes before the schedule is in force: so none
--- waits from before. Of silent classes none comes. Of any other class no more is asked than that a frame that starts needs the wire for no
--- longer than is known.
+-- curve of its talkers and to their slot curve of each pitch, so that each counts for as long as those of its talker, and each needs the wire
+-- for no longer than is known. None of them comes before the schedule is in force: so none waits from before. Of silent classes none comes.
+-- Of any other class no more is asked than that a frame that starts needs the wire for no longer than is known.
 pub record IsSharingRun (ps mtu room : ℕ) (plan : Plan) (traffic : ℕ → List ClassTraffic) (judged silent : ℕ → Bool) (events : List Event)
     : Type 0 where
   pub command : Accepted
   pub one : (class : ℕ) → class < 8 → IsOnePlan ps mtu room class events command plan
   pub conform : (class : ℕ) → class < 8 → judged class ≡ true
       → ConformTo ps (needs (traffic class) class) (arrivals_of (traffic class) class) (offered ps mtu room class events)
+  pub cover : (class pitch : ℕ) → class < 8 → judged class ≡ true → 0 < pitch
+      → CoverUpTo ps pitch (covered_by (traffic class) pitch class) (offered ps mtu room class events)
   pub scheduled : (class : ℕ) → class < 8 → judged class ≡ true → AreScheduled class events (new_port ps mtu room)
   pub quiet : (class : ℕ) → class < 8 → silent class ≡ true → offered ps mtu room class events ≡ []
   pub others : (class k : ℕ) (x : Start) → class < 8 → judged class ≡ true

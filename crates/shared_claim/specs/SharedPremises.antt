@@ -15,9 +15,10 @@ use Rattle.separation.specs.Traffic.{Came}
 use Rattle.delay_bounds.specs.Walk.{may_by}
 use Rattle.any_traffic.specs.ArrivalCurve.{ConformTo}
 use Rattle.any_traffic.specs.Runs.{end_of_run, offered}
+use Rattle.any_traffic.specs.SlotCurve.{CoverUpTo}
 use Rattle.burst_bounds.specs.declared.Bounds.{Bounds}
 use Rattle.shared_bounds.specs.Sharing.{Share}
-use Rattle.shared_bounds.specs.Traffic.{arrivals_of, needs}
+use Rattle.shared_bounds.specs.Traffic.{arrivals_of, covered_by, needs}
 use Rattle.shared_bounds.specs.declared.ClassTraffic.{ClassTraffic}
 use Rattle.premises.specs.Runs.{IsTaken, in_force_from, scheduled}
 use Rattle.shared_claim.specs.SharedClaim.{AreJudged, IsSharingRun}
@@ -34,8 +35,8 @@ abbrev pub frames_to : AbstractPort → (class : ℕ) → List Came → List Cam
 frames_to p class = filter (λ f. is_class class (class_for p f.frame.priority))
 
 -- Frames of all classes can come to a new port by a moment. It is of a rate and an mtu that there are, accepts the schedule, and takes each
--- frame into a class. They come once the schedule is in force. Those of each class that is judged conform to the curve of its talkers; none
--- is of a silent class; and any other needs the wire for no longer than is known.
+-- frame into a class. They come once the schedule is in force. Those of each class that is judged conform to the curves of its talkers;
+-- none is of a silent class; and any other needs the wire for no longer than is known.
 pub record CanShare (ps mtu room : ℕ) (change : Change) (traffic : ℕ → List ClassTraffic) (judged silent : ℕ → Bool) (came : List Came) (until : ℕ)
     : Type 0 where
   pub rate : MIN_PS_PER_OCTET ≤ ps
@@ -47,6 +48,8 @@ pub record CanShare (ps mtu room : ℕ) (change : Change) (traffic : ℕ → Lis
   pub clock : until ≤ greatest_moment
   pub conform : (class : ℕ) → class < 8 → judged class ≡ true
       → ConformTo ps (needs (traffic class) class) (arrivals_of (traffic class) class) (frames_to (scheduled ps mtu room change) class came)
+  pub cover : (class pitch : ℕ) → class < 8 → judged class ≡ true → 0 < pitch
+      → CoverUpTo ps pitch (covered_by (traffic class) pitch class) (frames_to (scheduled ps mtu room change) class came)
   pub quiet : (class : ℕ) → class < 8 → silent class ≡ true → frames_to (scheduled ps mtu room change) class came ≡ []
   pub others : (class j k : ℕ) (f : Came) → class < 8 → judged class ≡ true → j < 8 → judged j ≡ false → silent j ≡ false
       → slice_get (frames_to (scheduled ps mtu room change) j came) k ≡ Some f → occupancy_of ps f.frame.len ≤ needs (traffic class) j

@@ -1,8 +1,7 @@
-use Rattle.std.proofs.Common.{◌<◌, ◌+◌, ◌*◌, ℕ, min, [], length, get_or, refl, sym, ap, ◌∙◌, arith}
-use Rattle.any_traffic.specs.SharedSlots.{slots_of}
+use Rattle.std.proofs.Common.{◌<◌, ◌+◌, ℕ, min, [], length, get_or, refl, sym, ap, ◌∙◌, arith}
 use Rattle.shared_bounds.specs.Place.{above_of}
-use Rattle.shared_bounds.specs.Traffic.{needs, start_curves}
-use Rattle.shared_bounds.proofs.TrafficLaws.{above_more, capped, starts_at}
+use Rattle.shared_bounds.specs.Traffic.{start_curves}
+use Rattle.shared_bounds.proofs.TrafficLaws.{above_more, starts_at}
 use Rattle.shared_bounds.proofs.place.SharedClass.above_within.Goals as goal
 
 pub loop-class-preserved : goal.loop-class-preserved
@@ -13,17 +12,13 @@ loop-class-preserved c =
     let one = c.starts_within-starts.ensures in
     let all = c.requires.place.all in
     let j : ℕ = get_or it.higher.now c.loop-class.class-index 0 in
-    let weight : ℕ = slots_of (needs it.traffic.now j) it.pitch in
     let less : j < 8 = c.requires.place.higher c.loop-class.class-index 0 c.loop-class-test.true in
     let listed : j < length it.traffic.now = omega (arith, all, less) in
-    let counted = capped weight (start_curves it.traffic.now j c.args.time) c.args.limit c.loop-class.slots in
-    let next = min_is ∙ (ap (λ k. min (c.loop-class.slots + k * c.starts_within-starts.result) c.args.limit) c.slots_of.ensures.slots
-    ∙ (ap (λ k. min (c.loop-class.slots + weight * k) c.args.limit)
-    (one ∙ ap (λ k. min k c.args.limit) (sym (starts_at it.traffic.now j c.args.time
-    (record { need = 0; talkers = record { ref_ptr = (0, 0); now = [] }; bounds = record { wait = 0; most = 0 } }) listed)))
-    ∙ counted)) in (
+    let next = min_is ∙ ap (λ k. min (c.loop-class.slots + k) c.args.limit)
+    (one ∙ ap (λ k. min k c.args.limit) (sym (starts_at it.traffic.now it.pitch j c.args.time
+    (record { need = 0; talkers = record { ref_ptr = (0, 0); now = [] }; bounds = record { wait = 0; most = 0 } }) listed))) in (
       omega (arith, min_is),
-      above_more (λ j. slots_of (needs it.traffic.now j) it.pitch * start_curves it.traffic.now j c.args.time) it.higher.now
-          c.loop-class.class-index j c.args.limit c.loop-class.slots c.min-slots.result
-          (min (above_of it c.args.time) c.args.limit) c.loop-class-test.true refl inv.1 (omega (arith, next)),
+      above_more (λ j. start_curves it.traffic.now it.pitch j c.args.time) it.higher.now c.loop-class.class-index j c.args.limit
+          c.loop-class.slots c.min-slots.result (min (above_of it c.args.time) c.args.limit) c.loop-class-test.true refl inv.1
+          (omega (arith, next)),
     )
