@@ -13,6 +13,7 @@ from bounds_shared import Frame, class_of, fitting, free, judged, longest_of, ne
 
 TOGETHER = 16
 KEPT = 4
+OPENINGS = 6
 
 # An attack: the moment of the cycle, of each stream how much later it begins, how much of its jitter is taken and whether its frames are short, and frames
 # of other classes: at a moment from the begin on, or just before one of the openings of the gate behind it; of no length: the longest that may start then.
@@ -39,10 +40,18 @@ def other_of(chance, world, said, target):
     return "moment", moment, number, octets
 
 
+def before_each(world, target):
+    """The longest frame of another class just before the attack, and just before each of the next openings of the gate."""
+    number = max(free(world, target), key=lambda it: longest_of(world, it, target)[0])
+    return [("moment", -1, number, 0)] + [("opening", count, number, 0) for count in range(OPENINGS if openings(world, target) else 0)]
+
+
 def first_attack(chance, world, said, target):
     """Any attack: mostly with all jitter at once, and with a frame just before it."""
     places = [place for number in with_it(world, target) for place in streams_of(world, number)]
     others = [other_of(chance, world, said, target) for _ in range(chance.randint(1, 3))] if free(world, target) else []
+    if others and chance.random() < 0.5:
+        others = before_each(world, target)
     return Attack(
         phase(chance, world, target),
         {place: shift_of(chance, world, said, target, place) for place in places},
