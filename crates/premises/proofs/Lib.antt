@@ -1,3 +1,4 @@
 pub mod Kept
+pub mod FrameEvents
 pub mod FlowArrivals
 pub mod RunsExist

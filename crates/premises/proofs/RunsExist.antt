@@ -1,103 +1,30 @@
 -- A run in which the frames of flows come: the command, and for each frame a clock event to its moment and the frame.
-use Rattle.std.proofs.Common.{◌≡◌, ◌<◌, ◌≤◌, ℕ, zero, suc, ◌+◌, ◌-◌, Bool, true, false, cond, ◌&&◌, ◌||◌, not, eqb, leb, ltb, List, [], ◌∷◌, ◌++◌, length, slice_get, Option, Some, None, Result, Ok, Err, is_some, refl, sym, ap, ◌∙◌, subst, arith}
+use Rattle.std.proofs.Common.{◌≡◌, ◌<◌, ◌≤◌, ℕ, zero, suc, ◌+◌, ◌-◌, true, cond, ◌&&◌, List, [], ◌∷◌, ◌++◌, length, slice_get, Option, Some, None, Result, is_some, refl, sym, ap, ◌∙◌, subst, arith}
 use Rattle.std.specs.Prelude.{All, slice_index_or}
 use Rattle.std.specs.Option.{option_map_or}
-use Rattle.std.proofs.lemmas.Bool.{eq-eqb, false≢true, le-leb}
+use Rattle.std.proofs.lemmas.Bool.{false≢true, le-leb}
 use Rattle.std.proofs.lemmas.List.{length-map, length-set}
 use Rattle.wire_time.specs.Moment.{greatest_moment}
-use Rattle.wire_time.specs.Wire.{sdu_of}
 use Rattle.wire_time.specs.declared.Frame.{Frame}
-use Rattle.class_map.specs.declared.ClassMap.{ClassMap}
-use Rattle.class_map.specs.declared.Queues.{Queues}
 use Rattle.list_config.specs.History.{Accepted, in_force}
-use Rattle.abstract_port.specs.AbstractPort.{AbstractPort, after_arrival, class_for, drop_in, installs_by, limit_of, new_command, new_port, next_start, plan_asked, queue_of, refusal, verdict, verdict_in, waiting}
+use Rattle.abstract_port.specs.AbstractPort.{AbstractPort, after_arrival, class_for, installs_by, limit_of, new_command, new_port, plan_asked, refusal, verdict}
 use Rattle.abstract_port.specs.Answers.{answers_to}
 use Rattle.abstract_port.specs.declared.Change.{Change}
 use Rattle.abstract_port.specs.declared.Command.{Command}
 use Rattle.abstract_port.specs.declared.Command.TheVariants.{Replace}
 use Rattle.abstract_port.specs.declared.Dropped.{Dropped}
-use Rattle.abstract_port.specs.declared.Dropped.TheVariants.{OverSdu, Full, TooLong}
 use Rattle.abstract_port.specs.declared.Event.{Event}
 use Rattle.abstract_port.specs.declared.Event.TheVariants.{Arrive, Clock, Install}
-use Rattle.abstract_port.proofs.ArrivalLaws.{verdict_with}
-use Rattle.abstract_port.proofs.RunLaws.{arrival-keeps, clock_on}
-use Rattle.abstract_port.proofs.StartsLaws.{IsUnmoved, next_start-unmoved, starts_from-unmoved}
-use Rattle.separation.specs.Separation.{IsApart, IsKeptApart, is_class}
-use Rattle.separation.specs.Traffic.{Came, IsOnly, offered_as, offered_by, offered_in}
-use Rattle.separation.proofs.Lives.{starts_until_live}
-use Rattle.separation.proofs.Lockstep.{live, tick, with_moment}
+use Rattle.abstract_port.proofs.RunLaws.{arrival-keeps}
+use Rattle.separation.specs.Separation.{IsApart, IsKeptApart}
+use Rattle.separation.specs.Traffic.{IsOnly, offered_in}
 use Rattle.delay_bounds.specs.Claim.{AreComing, IsRun, coming, earliest, flow_at, offsets_of}
 use Rattle.delay_bounds.specs.declared.Flow.{Flow}
 use Rattle.delay_bounds.proofs.MomentLaws.{some_least}
 use Rattle.delay_bounds.proofs.StepLaws.{coming_at, first_of, next_behind, nexts_after, rises, rises_once}
 use Rattle.delay_bounds.proofs.Words.{coming_on}
+use Rattle.premises.proofs.FrameEvents.{goes_on, offered_own, setup-arrival, setup_of}
 use Rattle.premises.specs.Runs.{CanCome, IsTaken, NoneDeletes, RunsExist, scheduled}
-
--- ---- what neither a frame nor a moment changes
-
-abbrev setup_of : AbstractPort → ℕ × ℕ × List Accepted × Option (ClassMap × Queues) × List ℕ
-setup_of p = (p.ps, p.mtu, p.history, p.classes, p.limits)
-
-setup-drop : (p : AbstractPort) (why : Dropped) (o : Option ℕ) → setup_of (drop_in p why o) ≡ setup_of p
-setup-drop p why None = refl
-setup-drop p why (Some class) = refl
-
-setup-arrival : (p : AbstractPort) (f : Frame) (v : Result ℕ Dropped) → setup_of (after_arrival p f v) ≡ setup_of p
-setup-arrival p f (Ok class) = refl
-setup-arrival p f (Err why) = setup-drop p why (class_for p f.priority)
-
-setup-stays : IsUnmoved setup_of
-setup-stays = record { moved = λ p m. refl; begun = λ p m finish queues counts. refl }
-
--- ---- moments
-
-now-live : (n : ℕ) (p : AbstractPort) → (live n p).1.now ≡ p.now + n
-unfolding live
-now-live zero p = omega arith
-now-live (suc n) p = (let more : p.now + 1 + n ≡ p.now + suc n = omega arith in now-live n (with_moment (tick p).1 (p.now + 1)) ∙ more)
-
--- a port whose clock has gone on to a moment
-record IsThen (p : AbstractPort) (m : ℕ) (q : AbstractPort) : Type 0 where
-  pub now : q.now ≡ m
-  pub setup : setup_of q ≡ setup_of p
-
-goes_on : (p : AbstractPort) (m : ℕ) → 0 < p.ps → p.now ≤ m → m ≤ greatest_moment → IsThen p m (answers_to (Clock m) p).1
-goes_on p m some from within =
-    let on : (ltb m p.now || ltb greatest_moment m) ≡ false = grind (arith, from, within) in
-    let is = ap (λ x. x.1) (clock_on m p on) in
-    let there : p.now + (m - p.now) ≡ m = omega (arith, from) in
-    let r = next_start p m in
-    record {
-      now = ap (λ (x : AbstractPort). x.now) is ∙ (ap (λ x. x.1.now) (starts_until_live p m some from) ∙ (now-live (m - p.now) p ∙ there));
-      setup = ap setup_of is ∙ (starts_from-unmoved setup_of setup-stays (waiting p + 1) m r.0 r.1 ∙ next_start-unmoved setup_of setup-stays p m);
-    }
-
--- ---- a frame that is taken is offered
-
-abbrev came_at : AbstractPort → Frame → Came
-came_at p f = record { moment = p.now; frame = f }
-
-room_or_not : (b : Bool) (class : ℕ) (p : AbstractPort) (f : Frame) → class_for p f.priority ≡ Some class → offered_as class p f (cond b (Err Full) (Ok class)) ≡ came_at p f ∷ []
-room_or_not true class p f leads =
-    ap (λ o. cond (is_class class o) (came_at p f ∷ []) []) leads ∙ ap (λ b. cond b (came_at p f ∷ []) []) (eq-eqb class class refl)
-room_or_not false class p f leads = ap (λ b. cond b (came_at p f ∷ []) []) (eq-eqb class class refl)
-
-not_over : (limit sdu : ℕ) → (0 < limit → sdu ≤ limit) → (not (eqb limit 0) && ltb limit sdu) ≡ false
-not_over zero sdu within = refl
-not_over (suc limit) sdu within = (let less = within (omega arith) in grind (arith, less))
-
-offered_one : (class : ℕ) (p : AbstractPort) (f : Frame) (sdu : ℕ) → class_for p f.priority ≡ Some class → sdu_of f ≡ Some sdu → sdu ≤ p.mtu → (0 < limit_of p class → sdu ≤ limit_of p class)
-    → offered_by class (Arrive f) p ≡ came_at p f ∷ []
-offered_one class p f sdu leads whole short limited =
-    let full : Bool = leb p.room (length (queue_of p class)) in
-    let over : Bool = not (eqb (limit_of p class) 0) && ltb (limit_of p class) sdu in
-    let fits : ltb p.mtu sdu ≡ false = grind (arith, short) in
-    let is : verdict p f ≡ cond full (Err Full) (Ok class) =
-    ap (verdict_with p f) leads
-    ∙ (ap (verdict_in p class) whole
-    ∙ (ap (λ b. cond b (Err TooLong) (cond over (Err OverSdu) (cond full (Err Full) (Ok class)))) fits
-    ∙ ap (λ b. cond b (Err OverSdu) (cond full (Err Full) (Ok class))) (not_over (limit_of p class) sdu limited))) in
-    ap (offered_as class p f) is ∙ room_or_not full class p f leads
 
 -- ---- the frames, one after another
 
@@ -150,7 +77,7 @@ module _ (base : AbstractPort) (a : Accepted) (class : ℕ) (flows : List Flow) 
       let leads : class_for q f.priority ≡ Some class = ap (λ s. class_for (record base { classes = s.3 }) f.priority) here ∙ sent.leads in
       let short : sent.sdu ≤ q.mtu = subst (λ n. sent.sdu ≤ n) (sym (ap (λ s. s.1) here)) sent.short in
       let limited : 0 < limit_of q class → sent.sdu ≤ limit_of q class = subst (λ xs. 0 < slice_index_or xs class 0 → sent.sdu ≤ slice_index_or xs class 0) (sym (ap (λ s. s.4) here)) sent.limited in
-      let offers = offered_one class q f sent.sdu leads sent.whole short limited in
+      let offers = offered_own class q f sent.sdu leads sent.whole short limited in
       let v : Result ℕ Dropped = verdict q f in
       let r : AbstractPort = after_arrival q f v in
       let rest = behind r (setup-arrival q f v ∙ here) ((arrival-keeps q f v).1 ∙ later.now) in

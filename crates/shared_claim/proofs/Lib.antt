@@ -1,4 +1,3 @@
-mod SetupLaws
 mod OtherLaws
 mod ClaimLaws
 mod RunLaws

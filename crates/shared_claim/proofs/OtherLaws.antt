@@ -35,7 +35,7 @@ use Rattle.separation.proofs.Steps.{install_with}
 use Rattle.any_traffic.specs.Runs.{queued}
 use Rattle.any_traffic.proofs.ListLaws.{none_here}
 use Rattle.premises.specs.Runs.{scheduled}
-use Rattle.shared_claim.proofs.SetupLaws.{setup-arrival, setup-clock, setup_of}
+use Rattle.premises.proofs.FrameEvents.{came_at, setup-arrival, setup-clock, setup_of}
 use Rattle.shared_claim.specs.OtherClasses.{IsBehind, LimitLaw, MtuLaw, OthersLaw, TakesUpTo, UnledLaw, tagged_need}
 
 -- ---- frames that need the wire for so long at most
@@ -374,9 +374,6 @@ limit_run a base class history some (event ∷ rest) p same only =
     (limit_run a base class history some rest (answers_to event p).1 (stays ∙ same) only.1)
 
 -- ---- the classes to which no priority leads
-
-abbrev came_at : AbstractPort → Frame → Came
-came_at p f = record { moment = p.now; frame = f }
 
 not_led : (class : ℕ) (p : AbstractPort) (f : Frame) → (class_for p f.priority ≡ Some class → ⊥) → (o : Option ℕ) → class_for p f.priority ≡ o
     → cond (is_class class o) (came_at p f ∷ []) [] ≡ []

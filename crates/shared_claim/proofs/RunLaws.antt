@@ -1,27 +1,22 @@
 -- A run in which frames of all classes come: the command, for each frame a clock event to its moment and the frame, and the clock at last.
--- That a frame which is taken is offered stands in premises/proofs/RunsExist.antt, too, for one class that is kept apart.
-use Rattle.std.proofs.Common.{◌≡◌, ◌<◌, ◌≤◌, ℕ, zero, suc, ◌+◌, ◌-◌, Bool, true, false, cond, ◌&&◌, ◌||◌, not, eqb, leb, ltb, List, [], ◌∷◌, ◌++◌, length, slice_get, Some, None, Ok, Err, is_some, refl, sym, ap, ◌∙◌, subst, arith, le_refl}
+use Rattle.std.proofs.Common.{◌≡◌, ◌<◌, ◌≤◌, ℕ, suc, ◌+◌, Bool, true, false, cond, ◌&&◌, ◌||◌, eqb, List, [], ◌∷◌, ◌++◌, slice_get, Some, None, is_some, refl, sym, ap, ◌∙◌, subst, arith, le_refl}
 use Rattle.std.specs.Prelude.{slice_index_or}
 use Rattle.std.proofs.lemmas.Bool.{le-leb, or_parts}
 use Rattle.wire_time.specs.Moment.{greatest_moment}
 use Rattle.wire_time.specs.Wire.{occupancy_of, sdu_of}
 use Rattle.wire_time.specs.declared.Frame.{Frame}
 use Rattle.list_config.specs.History.{Accepted, in_force}
-use Rattle.abstract_port.specs.AbstractPort.{AbstractPort, after_arrival, class_for, installs_by, limit_of, new_command, new_port, plan_asked, queue_of, verdict, verdict_in}
+use Rattle.abstract_port.specs.AbstractPort.{AbstractPort, after_arrival, class_for, installs_by, new_command, new_port, plan_asked, verdict}
 use Rattle.abstract_port.specs.Answers.{answers_of, answers_to, port_after}
 use Rattle.abstract_port.specs.Laws.{starts_in}
 use Rattle.abstract_port.specs.declared.Change.{Change}
 use Rattle.abstract_port.specs.declared.Command.TheVariants.{Replace}
-use Rattle.abstract_port.specs.declared.Dropped.TheVariants.{Full, OverSdu, TooLong}
 use Rattle.abstract_port.specs.declared.Event.{Event}
 use Rattle.abstract_port.specs.declared.Event.TheVariants.{Arrive, Clock, Install}
 use Rattle.abstract_port.specs.declared.Start.{Start}
-use Rattle.abstract_port.proofs.ArrivalLaws.{verdict_with}
-use Rattle.abstract_port.proofs.RunLaws.{accepted_plan, arrival-keeps, clock_on, has_cycle}
+use Rattle.abstract_port.proofs.RunLaws.{accepted_plan, arrival-keeps, has_cycle}
 use Rattle.separation.specs.Separation.{is_class}
-use Rattle.separation.specs.Traffic.{Came, IsOnly, offered_as, offered_by, offered_in, queued_in}
-use Rattle.separation.proofs.Lives.{starts_until_live}
-use Rattle.separation.proofs.Lockstep.{live, tick, with_moment}
+use Rattle.separation.specs.Traffic.{Came, IsOnly, offered_by, offered_in, queued_in}
 use Rattle.any_traffic.specs.ArrivalCurve.{ConformTo}
 use Rattle.any_traffic.specs.SlotCurve.{CoverUpTo}
 use Rattle.any_traffic.specs.Runs.{AreScheduled, IsOnePlan, end_of_run, offered}
@@ -29,61 +24,12 @@ use Rattle.any_traffic.proofs.Offered.{are_part}
 use Rattle.any_traffic.proofs.PartLaws.{part_at}
 use Rattle.shared_bounds.specs.Traffic.{arrivals_of, covered_by, needs}
 use Rattle.shared_bounds.specs.declared.ClassTraffic.{ClassTraffic}
+use Rattle.premises.proofs.FrameEvents.{IsThen, goes_on, offered_one, setup-arrival, setup_of}
 use Rattle.premises.specs.Runs.{IsTaken, in_force_from, scheduled}
 use Rattle.shared_claim.specs.OtherClasses.{TakesUpTo}
 use Rattle.shared_claim.specs.SharedClaim.{IsSharingRun}
 use Rattle.shared_claim.specs.SharedPremises.{CanShare, ComeWithin, SharedRunsExist, frames_to}
 use Rattle.shared_claim.proofs.OtherLaws.{others_law}
-use Rattle.shared_claim.proofs.SetupLaws.{setup-arrival, setup-clock, setup_of}
-
--- ---- the clock goes on
-
-now-live : (n : ℕ) (p : AbstractPort) → (live n p).1.now ≡ p.now + n
-unfolding live
-now-live zero p = omega arith
-now-live (suc n) p = (let more : p.now + 1 + n ≡ p.now + suc n = omega arith in now-live n (with_moment (tick p).1 (p.now + 1)) ∙ more)
-
--- a port whose clock has gone on to a moment
-record IsThen (p : AbstractPort) (m : ℕ) (q : AbstractPort) : Type 0 where
-  pub now : q.now ≡ m
-  pub setup : setup_of q ≡ setup_of p
-
-goes_on : (p : AbstractPort) (m : ℕ) → 0 < p.ps → p.now ≤ m → m ≤ greatest_moment → IsThen p m (answers_to (Clock m) p).1
-goes_on p m some from within =
-    let on : (ltb m p.now || ltb greatest_moment m) ≡ false = grind (arith, from, within) in
-    let is = ap (λ x. x.1) (clock_on m p on) in
-    let there : p.now + (m - p.now) ≡ m = omega (arith, from) in
-    record {
-      now = ap (λ (x : AbstractPort). x.now) is ∙ (ap (λ x. x.1.now) (starts_until_live p m some from) ∙ (now-live (m - p.now) p ∙ there));
-      setup = setup-clock m p;
-    }
-
--- ---- a frame that is taken is offered to the queue of its class
-
-abbrev came_at : AbstractPort → Frame → Came
-came_at p f = record { moment = p.now; frame = f }
-
-room_or_not : (b : Bool) (class own : ℕ) (p : AbstractPort) (f : Frame) → class_for p f.priority ≡ Some own
-    → offered_as class p f (cond b (Err Full) (Ok own)) ≡ cond (eqb own class) (came_at p f ∷ []) []
-room_or_not true class own p f leads = ap (λ o. cond (is_class class o) (came_at p f ∷ []) []) leads
-room_or_not false class own p f leads = refl
-
-not_over : (limit sdu : ℕ) → (0 < limit → sdu ≤ limit) → (not (eqb limit 0) && ltb limit sdu) ≡ false
-not_over zero sdu within = refl
-not_over (suc limit) sdu within = (let less = within (omega arith) in grind (arith, less))
-
-offered_one : (class own : ℕ) (p : AbstractPort) (f : Frame) (sdu : ℕ) → class_for p f.priority ≡ Some own → sdu_of f ≡ Some sdu → sdu ≤ p.mtu
-    → (0 < limit_of p own → sdu ≤ limit_of p own) → offered_by class (Arrive f) p ≡ cond (eqb own class) (came_at p f ∷ []) []
-offered_one class own p f sdu leads whole short limited =
-    let full : Bool = leb p.room (length (queue_of p own)) in
-    let over : Bool = not (eqb (limit_of p own) 0) && ltb (limit_of p own) sdu in
-    let fits : ltb p.mtu sdu ≡ false = grind (arith, short) in
-    let is : verdict p f ≡ cond full (Err Full) (Ok own) =
-    ap (verdict_with p f) leads
-    ∙ (ap (verdict_in p own) whole
-    ∙ (ap (λ b. cond b (Err TooLong) (cond over (Err OverSdu) (cond full (Err Full) (Ok own)))) fits
-    ∙ ap (λ b. cond b (Err OverSdu) (cond full (Err Full) (Ok own))) (not_over (limit_of p own) sdu limited))) in
-    ap (offered_as class p f) is ∙ room_or_not full class own p f leads
 
 one_more : (b : Bool) (f : Came) (rest : List Came) → cond b (f ∷ []) [] ++ rest ≡ cond b (f ∷ rest) rest
 one_more true f rest = refl

@@ -5,7 +5,7 @@ use Rattle.std.proofs.Common.{◌≡◌, ◌<◌, ◌≤◌, ◌⊎◌, inl, inr
 use Rattle.std.proofs.lemmas.Bool.{both_ways, cases_lt}
 use Rattle.gate_list.specs.Gate.{Plan}
 use Rattle.delay_bounds.specs.Walk.{may_by}
-use Rattle.any_traffic.specs.SharedBounds.{IsSharedBusyPeriod, IsSlotFor, slots_above}
+use Rattle.any_traffic.specs.SharedBounds.{IsSlotFor, slots_above}
 use Rattle.any_traffic.specs.SharedSlots.{IsFirstShared, IsNextShared, IsNextWindow, IsSharedSlot, is_opening, slots_of}
 use Rattle.shared_bounds.specs.Least.{AreBusyBounds, AreNoMore}
 
