@@ -10,6 +10,7 @@ mod linux;
 mod marks;
 mod near;
 mod script_words;
+mod sharers;
 mod warnings;
 
 pub use commands::put_failure;

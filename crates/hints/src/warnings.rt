@@ -1,10 +1,11 @@
 //! What is no fault, and is perhaps not meant.
 
 use crate::marks::{Hint, put_hint, span_at};
-use abstract_port::Dropped;
+use crate::sharers::put_sharers;
+use abstract_port::{Change, Dropped};
 use answer_text::{Part, WriteFault, dropped_name, put_parts};
 use octet_writer::put;
-use script::{Basis, Missed, Sharers, Shares};
+use script::{Basis, Missed};
 use std::io::Write;
 
 /// The ids of the frames of a stream, and the number of its line in a table.
@@ -161,56 +162,13 @@ pub fn put_busy_class<W: Write>(
     )
 }
 
-/// Writes what the greatest wait of a stream of this id is made of.
-fn put_shares<W: Write>(writer: &mut W, id: u64, shares: Shares) -> Result<(), WriteFault> {
-    put_parts(
-        writer,
-        &[
-            Part::Text(b"    stream "),
-            Part::Number(u128::from(id)),
-            Part::Text(b" waits the longest: by its gates "),
-            Part::Number(shares.gates),
-            Part::Text(b", behind a lower class "),
-            Part::Number(shares.blocking),
-            Part::Text(b", behind higher ones "),
-            Part::Number(shares.higher),
-            Part::Text(b", in its own queue "),
-            Part::Number(shares.queue),
-            Part::Text(b"\n"),
-        ],
-    )
-}
-
-/// Writes with which classes a class shares windows, what may be in its way, and what its longest wait is made of.
-fn put_sharers<W: Write>(writer: &mut W, sharers: Sharers) -> Result<(), WriteFault> {
-    if sharers.classes.iter().filter(|is| **is).count() == 1 {
-        put(writer, b" beside class")?;
-    } else {
-        put(writer, b" beside classes")?;
-    }
-    for class in 0..8u8 {
-        if sharers.classes[class as usize] {
-            put_parts(writer, &[Part::Text(b" "), Part::Number(u128::from(class))])?;
-        }
-    }
-    put_parts(
-        writer,
-        &[
-            Part::Text(b", first in entry "),
-            Part::Number(u128::from(sharers.entry)),
-            Part::Text(b"\n    a frame of another class may be in its way for "),
-            Part::Number(sharers.blocking),
-            Part::Text(b"\n"),
-        ],
-    )?;
-    match sharers.longest {
-        Some((id, shares)) => put_shares(writer, id, shares),
-        None => Ok(()),
-    }
-}
-
 /// For which frames the bounds of a class are found, and the premise that is the weakest.
-fn put_premise<W: Write>(writer: &mut W, basis: Basis) -> Result<(), WriteFault> {
+fn put_premise<W: Write>(
+    writer: &mut W,
+    class: u8,
+    change: &Change,
+    basis: Basis,
+) -> Result<(), WriteFault> {
     match basis {
         Basis::ExactMoments => put(
             writer,
@@ -234,7 +192,15 @@ fn put_premise<W: Write>(writer: &mut W, basis: Basis) -> Result<(), WriteFault>
             writer,
             b" for any moments, since its windows come again after more frames than --frames\n    with more --frames its bounds may be lower\n",
         ),
-        Basis::Shared(sharers) => put_sharers(writer, sharers),
+        Basis::Shared(sharers) => put_sharers(writer, class, change, sharers),
+    }
+}
+
+/// Whether the class has bounds, in words.
+fn said_of(basis: Basis) -> &'static [u8] {
+    match basis {
+        Basis::Shared(sharers) if !sharers.bounded => b" has no bounds",
+        _ => b" is bounded",
     }
 }
 
@@ -243,6 +209,7 @@ pub fn put_basis<W: Write>(
     writer: &mut W,
     number: u32,
     class: u8,
+    change: &Change,
     basis: Basis,
 ) -> Result<(), WriteFault> {
     put_parts(
@@ -252,10 +219,10 @@ pub fn put_basis<W: Write>(
             Part::Number(u128::from(number)),
             Part::Text(b": class "),
             Part::Number(u128::from(class)),
-            Part::Text(b" is bounded"),
+            Part::Text(said_of(basis)),
         ],
     )?;
-    put_premise(writer, basis)
+    put_premise(writer, class, change, basis)
 }
 
 /// Writes when a frame of the stream with this first id would end at the latest, if no stream of its class came at any

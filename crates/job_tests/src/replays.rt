@@ -1,6 +1,6 @@
 //! Two frames, and what comes out.
 
-use abstract_port::{Command, Dropped};
+use abstract_port::{Change, Command, Dropped};
 use job::{Ended, say_fault};
 use replay::{ReplayFault, ReplayInput, Stamp, replay};
 use script::{Basis, Failure, Missed, Settings, Unwatched, Watch};
@@ -185,7 +185,7 @@ impl Watch for Seen {
 
     fn class_is_busy(&mut self, _number: u32, _class: u8, _every: u128) {}
 
-    fn class_judged(&mut self, _number: u32, _class: u8, _basis: Basis) {}
+    fn class_judged(&mut self, _number: u32, _class: u8, _change: &Change, _basis: Basis) {}
 
     fn ends_without(&mut self, _first_id: u64, _end: u128) {}
 

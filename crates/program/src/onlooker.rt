@@ -4,7 +4,7 @@
 use crate::job_name::JobName;
 use crate::progress::Progress;
 use crate::stream_ids::{StreamIds, ids_of};
-use abstract_port::{Command, Dropped};
+use abstract_port::{Change, Command, Dropped};
 use arrayvec::ArrayVec;
 use hints::{
     put_basis, put_busy_class, put_comment, put_end_without, put_failure, put_fault_hint,
@@ -361,10 +361,10 @@ impl<C: Clock, P: Write + Drop, E: Write> Watch for Onlooker<'_, '_, C, P, E> {
         }
     }
 
-    fn class_judged(&mut self, number: u32, class: u8, basis: Basis) {
+    fn class_judged(&mut self, number: u32, class: u8, change: &Change, basis: Basis) {
         if self.comments < EXPLAINED {
             self.comments += 1;
-            let _ = put_basis(self.errors, number, class, basis);
+            let _ = put_basis(self.errors, number, class, change, basis);
             let _ = self.errors.flush();
         }
     }

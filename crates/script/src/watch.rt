@@ -3,7 +3,7 @@
 ghost use Rattle.std.specs.Prelude.{◌∷◌, ◌++◌, [], List};
 ghost use Rattle.script.specs.Alerts.{Alert, Failed, Judged, Left, Lost, Passed, Stream};
 
-use abstract_port::{Command, Dropped, Refused};
+use abstract_port::{Change, Command, Dropped, Refused};
 use tc_reader::TcFault;
 use wire_time::Frame;
 
@@ -47,10 +47,12 @@ pub struct Shares {
 pub struct Sharers {
     /// Of each class whether it is one.
     pub classes: [bool; 8],
-    /// Which entry of the list, from 1, is the first that opens the class and one of these.
-    pub entry: u32,
-    /// For how long a frame of another class may be in the way, in picoseconds.
+    /// Whether the class has bounds.
+    pub bounded: bool,
+    /// For how long a frame of a lower one of these may be in the way, in picoseconds.
     pub blocking: u128,
+    /// Of each class whether a frame of it may be in the way for so long.
+    pub blockers: [bool; 8],
     /// Of the stream that waits the longest its first id, and what its greatest wait is made of, where that is known.
     pub longest: Option<(u64, Shares)>,
 }
@@ -126,8 +128,9 @@ pub trait Watch {
     fn class_is_busy(&mut self, number: u32, class: u8, every: u128)
         ensures { alerted [] self.old self.new };
 
-    /// By the schedule of the line of this number the class has bounds, which are found by this.
-    fn class_judged(&mut self, number: u32, class: u8, basis: Basis)
+    /// By this change, which the line of this number is, the class has bounds, which are found by this; or it shares its
+    /// windows, and has none.
+    fn class_judged(&mut self, number: u32, class: u8, change: &Change, basis: Basis)
         ensures { alerted [] self.old self.new };
 
     /// In its class without the streams whose frames come at any moments, a frame of the stream with this first id would
@@ -179,7 +182,7 @@ impl Watch for Unwatched {
 
     fn class_is_busy(&mut self, _number: u32, _class: u8, _every: u128) {}
 
-    fn class_judged(&mut self, _number: u32, _class: u8, _basis: Basis) {}
+    fn class_judged(&mut self, _number: u32, _class: u8, _change: &Change, _basis: Basis) {}
 
     fn ends_without(&mut self, _first_id: u64, _end: u128) {}
 

@@ -1,6 +1,6 @@
 //! The answer about a class, by its streams.
 
-ghost use Rattle.std.specs.Prelude.{◌≡◌, ◌≢◌, ◌<◌, All, Err, None, Ok, IfErr, IfOk, Result, [], drop, length, nat_le, slice_get, unwrap_or};
+ghost use Rattle.std.specs.Prelude.{◌≡◌, ◌≢◌, ◌<◌, All, Err, None, Ok, IfErr, IfOk, Result, [], drop, length, nat_le, slice_get, true, unwrap_or};
 ghost use Rattle.abstract_port.specs.AbstractPort.{plan_asked};
 ghost use Rattle.job.specs.declared.fault.Fault.TheVariants as Faults;
 ghost use Rattle.wire_time.specs.declared.TheConstants.{CLASSES};
@@ -327,6 +327,31 @@ fn window_answer(
     let flows = jittered_flows_of(alloc, settings.port.rate(), sdu, streams)?;
     let told = window_bounds(&alloc, schedule, class, flows.as_slice(), settings.frames);
     answer_with(alloc, settings, change, schedule, streams, class, told)
+}
+
+/// The answer about a class with these streams, in a schedule that keeps it apart, where each frame may come anywhere in its
+/// window, and some may be missing: by windows, where all offsets are known.
+pub fn windows_answer(
+    alloc: Global,
+    settings: &BoundsSettings,
+    change: &Change,
+    schedule: &Schedule,
+    streams: &[Stream],
+    class: u8,
+) -> Result<ClassAnswer, BoundsFault>
+    requires class { class < CLASSES }
+    requires plan { schedule.now ≡ plan_asked change.now }
+    requires periodic { All IsPeriodic streams.now }
+    requires some { 0 < length streams.now }
+    ensures answer { IfOk result (λ a.
+        IsApartAnswer (has_any streams.now) true settings.now change.now streams.now class a) }
+    ensures memory { IfErr result (λ fault. fault ≡ Faults.Memory) }
+{
+    if has_any(streams) {
+        any_answer(alloc, settings, change, schedule, streams, class)
+    } else {
+        window_answer(alloc, settings, change, schedule, streams, class)
+    }
 }
 
 /// The answer about a class with these streams, in a schedule that keeps it apart.

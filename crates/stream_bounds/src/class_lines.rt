@@ -202,7 +202,7 @@ fn put_behind<W: Write>(writer: &mut W, class: u8, other: u8) -> Result<(), Writ
 }
 
 /// Writes the line of a class, where it has streams.
-fn put_class<W: Write>(
+pub fn put_class<W: Write>(
     writer: &mut W,
     class: u8,
     room: u32,

@@ -27,6 +27,14 @@ mod table_bounds;
 mod verdicts;
 
 pub use bounds_job::{BoundsWords, answer_bounds, bounds_given, end_with_bounds_value};
+pub use class_answer::{ClassAnswer, unbounded, windows_answer};
+pub use class_lines::put_class;
+pub use classes::{class_of, dropped_of};
 pub use faults::{Answered, BoundsFault, BoundsInput, Finding};
+pub use premise_lines::put_premises;
 pub use settings::{BoundsSettings, BoundsValue, MAX_FRAMES};
+pub use shared::{Beside, sharing_answer};
+pub use standing::{Standing, standing_of};
+pub use stream_lines::needs_of;
 pub use table_bounds::bounds;
+pub use verdicts::{Met, Needs, Verdict, plus};

@@ -16,7 +16,7 @@ use crate::standing::{Standing, may_send, standing_of};
 use crate::stream_lines::needs_of;
 use crate::verdicts::{Verdict, plus};
 use abstract_port::Change;
-use gate_list::{GateList, Schedule, is_open};
+use gate_list::Schedule;
 use script::{Basis, Sharers, Shares, Watch};
 use shared_bounds::sharing::shares_windows;
 use std::alloc::Global;
@@ -168,20 +168,6 @@ fn blocked_by(
     }
 }
 
-/// The first entry, from 1, that opens a class and another one.
-fn first_shared(list: &GateList, class: u8) -> u32
-    requires { class < CLASSES }
-{
-    let mut number: u32 = 0;
-    for entry in list.entries() {
-        number = number.saturating_add(1);
-        if is_open(entry.mask, class) && entry.mask.count_ones() > 1 {
-            return number;
-        }
-    }
-    number
-}
-
 /// With which classes a class shares windows.
 fn sharers_of(
     alloc: Global,
@@ -190,14 +176,16 @@ fn sharers_of(
     schedule: &Schedule,
     table: &[Stream],
     class: u8,
+    verdict: Verdict,
 ) -> Sharers
     requires class { class < CLASSES }
     requires periodic { All IsPeriodic table.now }
 {
     let mut sharers = Sharers {
         classes: [false; CLASSES],
-        entry: first_shared(&change.list, class),
+        bounded: has_bounds(verdict),
         blocking: 0,
+        blockers: [false; CLASSES],
         longest: None,
     };
     for other in 0..CLASSES as u8 {
@@ -205,7 +193,11 @@ fn sharers_of(
             sharers.classes[other as usize] = true;
         }
         let blocking = blocked_by(alloc, settings, change, schedule, table, class, other);
-        sharers.blocking = sharers.blocking.max(blocking);
+        if sharers.blocking < blocking {
+            sharers.blocking = blocking;
+            sharers.blockers = [false; CLASSES];
+        }
+        sharers.blockers[other as usize] = 0 < blocking && blocking == sharers.blocking;
     }
     sharers
 }
@@ -301,8 +293,60 @@ fn longest_wait(
     }
 }
 
-/// Tells who watches by what the bounds of a class are found.
+/// Tells who watches with which classes a class with these streams shares windows.
+fn tell_sharers<H: Watch>(
+    alloc: Global,
+    settings: &BoundsSettings,
+    change: &Change,
+    schedule: &Schedule,
+    streams: &[Stream],
+    answers: &Answers,
+    own: &[Stream],
+    class: u8,
+    number: u32,
+    watch: &mut H,
+)
+    requires class { class < CLASSES }
+    requires plan { schedule.now ≡ plan_asked change.now }
+    requires periodic { All IsPeriodic streams.now }
+    requires own { All IsPeriodic own.now }
+{
+    let verdict = answers.verdict(class);
+    let sharers = Sharers {
+        longest: longest_wait(
+            alloc, settings, change, schedule, streams, answers, own, class,
+        ),
+        ..sharers_of(alloc, settings, change, schedule, streams, class, verdict)
+    };
+    watch.class_judged(number, class, change, Basis::Shared(sharers));
+}
+
+/// Tells who watches by what the bounds of a class with these streams are found, which is kept apart.
 fn tell_basis<H: Watch>(
+    alloc: Global,
+    settings: &BoundsSettings,
+    change: &Change,
+    schedule: &Schedule,
+    own: &[Stream],
+    class: u8,
+    number: u32,
+    watch: &mut H,
+)
+    requires class { class < CLASSES }
+    requires plan { schedule.now ≡ plan_asked change.now }
+    requires own { All IsPeriodic own.now }
+    requires some { 0 < length own.now }
+{
+    let basis = basis_of(alloc, settings, change, schedule, own, class);
+    watch.class_judged(number, class, change, basis);
+    if let Basis::AnyMoments(_) = basis {
+        tell_without(alloc, settings, change, schedule, own, class, watch);
+    }
+}
+
+/// Tells who watches what is known of a class that has streams: with which it shares windows, or by what its bounds are
+/// found, if it has some.
+fn tell_class<H: Watch>(
     alloc: Global,
     settings: &BoundsSettings,
     change: &Change,
@@ -325,24 +369,16 @@ fn tell_basis<H: Watch>(
         return;
     }
     if !schedule.keeps_apart(class) {
-        let sharers = Sharers {
-            longest: longest_wait(
-                alloc, settings, change, schedule, streams, answers, own, class,
-            ),
-            ..sharers_of(alloc, settings, change, schedule, streams, class)
-        };
-        watch.class_judged(number, class, Basis::Shared(sharers));
-        return;
-    }
-    let basis = basis_of(alloc, settings, change, schedule, own, class);
-    watch.class_judged(number, class, basis);
-    if let Basis::AnyMoments(_) = basis {
-        tell_without(alloc, settings, change, schedule, own, class, watch);
+        tell_sharers(
+            alloc, settings, change, schedule, streams, answers, own, class, number, watch,
+        );
+    } else if has_bounds(answers.verdict(class)) {
+        tell_basis(alloc, settings, change, schedule, own, class, number, watch);
     }
 }
 
-/// Tells who watches by what the bounds are found of each class that has some. The schedule is that of the line of this
-/// number.
+/// Tells who watches by what the bounds are found of each class that has some, and with which classes one shares its
+/// windows. The schedule is that of the line of this number.
 pub(crate) fn tell_bases<H: Watch>(
     alloc: Global,
     settings: &BoundsSettings,
@@ -357,10 +393,8 @@ pub(crate) fn tell_bases<H: Watch>(
     requires periodic { All IsPeriodic streams.now }
 {
     for class in 0..CLASSES as u8 {
-        if has_bounds(answers.verdict(class)) {
-            tell_basis(
-                alloc, settings, change, schedule, streams, answers, class, number, watch,
-            );
-        }
+        tell_class(
+            alloc, settings, change, schedule, streams, answers, class, number, watch,
+        );
     }
 }
