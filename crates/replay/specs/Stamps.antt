@@ -1,5 +1,5 @@
 -- Which moment of a frame on the wire the record of its departure carries.
-use Rattle.std.specs.Prelude.{ℕ, ◌-◌, ◌*◌, min, List, Option, Some, None, codes, unwrap_or, if◌then◌else◌}
+use Rattle.std.specs.Prelude.{ℕ, ◌+◌, ◌-◌, ◌*◌, ◌/◌, min, List, Option, Some, None, codes, unwrap_or, if◌then◌else◌}
 use Rattle.std.specs.Str.{bytes_eq}
 use Rattle.abstract_port.specs.declared.Start.{Start}
 use Rattle.capture.specs.declared.writer.TheConstants.{CAPTURE_END}
@@ -15,11 +15,15 @@ gap_of ps = 12 * ps
 abbrev pub stamping_at : Stamp → ℕ → Stamping
 stamping_at stamp ps = record { stamp = stamp; gap = gap_of ps }
 
+-- A capture has whole nanoseconds. At a moment that is rounded up to them, what was sent before it has been sent.
+abbrev pub rounded_up : ℕ → ℕ
+rounded_up moment = 1000 * ((moment + 999) / 1000)
+
 -- The moment of a start: that at which the frame starts, or that at which its last octet, of the check sequence, has been sent, which is its end
 -- without the gap after it. A moment that no capture can say is the last that one can.
 abbrev pub moment_by : Stamp → ℕ → Start → ℕ
 moment_by Stamps.Start gap s = s.at
-moment_by Stamps.End gap s = min (s.«end» - gap) (CAPTURE_END - 1)
+moment_by Stamps.End gap s = min (rounded_up (s.«end» - gap)) (CAPTURE_END - 1)
 
 -- the moment that its record carries
 abbrev pub stamped : Stamping → Start → ℕ

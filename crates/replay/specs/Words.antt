@@ -51,7 +51,7 @@ pub use Rattle.replay.specs.RunEnd.{counted_to, last_end, rest_moment, run_end}
 pub use Rattle.replay.specs.RunState.{Answers, AnswersStarts, IsTogether, Keeps, State, first_kept, state}
 pub use Rattle.replay.specs.Separated.{IsSeparatedBy}
 pub use Rattle.replay.specs.Sources.{MergeLaw}
-pub use Rattle.replay.specs.Stamps.{gap_of, stamp_given, stamp_text, stamped, stamping_at}
+pub use Rattle.replay.specs.Stamps.{gap_of, rounded_up, stamp_given, stamp_text, stamped, stamping_at}
 pub use Rattle.replay.specs.Texts.{capture_fault_name, capture_status, capture_text, header_text, open_text, record_text, replay_telling}
 pub use Rattle.replay.specs.declared.faults.ReplayInput.{ReplayInput}
 pub use Rattle.replay.specs.declared.faults.Stop.{Stop}

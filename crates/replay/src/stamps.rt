@@ -2,7 +2,7 @@
 
 ghost use Rattle.std.specs.Prelude.{◌≡◌, ◌<◌, ◌-◌, min};
 ghost use Rattle.script.specs.Given.{octets_of};
-ghost use Rattle.replay.specs.Words.{CAPTURE_END, IsTold, stamp_given, stamp_text, stamped, stamping_at};
+ghost use Rattle.replay.specs.Words.{CAPTURE_END, IsTold, rounded_up, stamp_given, stamp_text, stamped, stamping_at};
 
 use abstract_port::Start;
 use answer_text::put;
@@ -16,8 +16,8 @@ use wire_time::Rate;
 pub enum Stamp {
     /// That at which the frame starts.
     Start,
-    /// That at which its last octet has been sent: its end without the gap after it. A moment that no capture can say
-    /// is the last that one can.
+    /// That at which its last octet has been sent: its end without the gap after it, rounded up to whole nanoseconds, so
+    /// that no other port has the frame before. A moment that no capture can say is the last that one can.
     End,
 }
 
@@ -41,13 +41,14 @@ pub(crate) fn stamping_at(stamp: Stamp, rate: Rate) -> Stamping
     Stamping { stamp, gap }
 }
 
-/// The moment at which the last octet of a frame has been sent, in picoseconds. Apart, since mostly the start is asked
-/// for.
+/// The moment at which the last octet of a frame has been sent, in picoseconds, rounded up to whole nanoseconds. Apart,
+/// since mostly the start is asked for.
 #[inline(never)]
 fn last_octet(gap: u128, end: u128) -> u128
-    ensures { result ≡ min (end - gap) (CAPTURE_END - 1) }
+    ensures { result ≡ min (rounded_up (end - gap)) (CAPTURE_END - 1) }
 {
-    end.saturating_sub(gap).min(CAPTURE_END - 1)
+    let last = end.saturating_sub(gap).min(CAPTURE_END);
+    (1000 * ((last + 999) / 1000)).min(CAPTURE_END - 1)
 }
 
 /// The moment that the record of a start carries, in picoseconds.
