@@ -29,5 +29,5 @@ pub use frame_count::FrameCount;
 pub use plan::{Plan, Timing};
 pub use streams::write_streams;
 pub use streams_job::{StreamsWords, answer_streams, plan_given};
-pub use table::{Stream, earliest, has_ids, tell_stream};
+pub use table::{Stream, earliest, has_ids, read_stream_line, tell_stream};
 pub use table_reader::{StreamTaker, Untaken, read_table};

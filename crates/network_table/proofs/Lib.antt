@@ -1,0 +1,7 @@
+mod EndLaws
+pub mod FirstLaws
+mod LineLaws
+mod WordLaws
+mod ViaLaws
+mod TakeLaws
+mod NameLaws
