@@ -1,3 +1,4 @@
 mod AlertLaws
 mod NameLaws
 mod ToldLaws
+mod PlanLaws

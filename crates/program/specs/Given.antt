@@ -26,6 +26,7 @@ use Rattle.job.specs.declared.report.Ended.{Ended}
 use Rattle.script.specs.declared.settings.BadValue.{BadValue}
 use Rattle.traffic.specs.StreamsEnd.{GivenWords as StreamsGiven, IsStreamsEnding, plan_given}
 use Rattle.traffic.specs.declared.plan.Plan.{Plan}
+use Rattle.plan.specs.PlanEnd.{IsPlanEnding}
 use Rattle.stream_bounds.specs.BoundsEnd.{IsBoundsEnding, IsBoundsRefusal, bounds_given}
 use Rattle.stream_bounds.specs.declared.settings.BoundsSettings.{BoundsSettings}
 use Rattle.stream_bounds.specs.declared.settings.BoundsValue.{BoundsValue}
@@ -111,6 +112,17 @@ IsGivenBounds settings None schedules ended old got errors_old errors_new = Unit
 IsGivenBounds (Ok settings) (Some path) schedules ended old got errors_old errors_new =
     ((table : Option (List ℕ)) × IsBoundsEnding settings table schedules ended old got errors_old errors_new) ⊎ IsUnanswered 4 (open_text path) ended old got errors_old errors_new
 IsGivenBounds (Err value) (Some path) schedules ended old got errors_old errors_new = IsBoundsRefusal value ended old got errors_old errors_new
+
+-- The end of a plan for the table that the words name, by the settings of the port: that of some octets, since what a file gives is not known, or of the
+-- path that can't be opened; or of a value that is bad, which comes first: the first of the port's, where one is. There is no end where the words name no
+-- table: they are refused then.
+abbrev pub IsGivenPlan : Result Setup BadValue → (explain : Bool) → Option (List ℕ) → Ended → (old got errors_old errors_new : Option (List ℕ)) → Type 0
+IsGivenPlan port explain None ended old got errors_old errors_new = Unit {0}
+IsGivenPlan (Ok port) explain (Some path) ended old got errors_old errors_new =
+    ((table : Option (List ℕ)) × IsPlanEnding port explain table ended old got errors_old errors_new)
+    ⊎ (IsUnanswered 4 (open_text path) ended old got errors_old errors_new
+    ⊎ ((text : List ℕ) × IsUnanswered 2 text ended old got errors_old errors_new))
+IsGivenPlan (Err value) explain (Some path) ended old got errors_old errors_new = IsRefusal value ended old got errors_old errors_new
 
 -- the settings of the values that are given to `frames`: with a capture the moment to run to is one of a replay
 abbrev pub frames_settings : Option (List ℕ) → Found → Result Setup BadValue

@@ -24,7 +24,7 @@ use Rattle.replay.specs.Stamps.{stamp_text}
 use Rattle.replay.specs.Texts.{open_text}
 use Rattle.replay.specs.Words.{IsReplayEnding, got}
 use Rattle.replay.specs.declared.stamps.Stamp.{Stamp}
-use Rattle.program.specs.Given.{IsGivenBounds, IsGivenFrames, IsGivenStreams, bounds_in, draws_in, checks_in, is_strict, over_input_text, plan_in, settings_in, stamp_in}
+use Rattle.program.specs.Given.{IsGivenBounds, IsGivenFrames, IsGivenPlan, IsGivenStreams, flag_in, bounds_in, draws_in, checks_in, is_strict, over_input_text, plan_in, settings_in, stamp_in}
 use Rattle.program.specs.Strict.{IsStrictEnding}
 use Rattle.program.specs.Table.{name_of, program_app}
 use Rattle.program.specs.declared.job_name.JobName.{JobName}
@@ -79,6 +79,8 @@ IsJobEnding Names.Streams found input ended old new errors_old errors_new =
     IsGivenStreams (plan_in found) (first_value found (codes "with")) input ended old new errors_old errors_new
 IsJobEnding Names.Bounds found input ended old new errors_old errors_new =
     IsGivenBounds (bounds_in found) (first_value found (codes "table")) input ended old new errors_old errors_new
+IsJobEnding Names.Plan found input ended old new errors_old errors_new =
+    IsGivenPlan (settings_in greatest_moment found) (flag_in (codes "explain") found) (first_value found (codes "table")) ended old new errors_old errors_new
 IsJobEnding Names.Draw found input ended old new errors_old errors_new =
     IsDrawEnding (settings_in greatest_moment found) (draws_in found) input ended old new errors_old errors_new
 IsJobEnding Names.Frames found input ended old new errors_old errors_new =

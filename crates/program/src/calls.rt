@@ -23,6 +23,7 @@ use crate::job_name::JobName;
 use crate::onlooker::{FaultText, Onlooker};
 use crate::options::{JOBS, checks_of, command, draws_of, is_given, looks_of, values_of};
 use crate::piped::Piped;
+use crate::plan_call::plan_for;
 use crate::progress::Progress;
 use crate::replay_call::{first_octets, replay_given};
 use crate::streams_call::streams_given;
@@ -172,6 +173,7 @@ fn answer_job<F: Files, B: Allocator, R: Read, W: Write + Drop, E: Errors, H: Wa
         JobName::Check => check_given(alloc, matches, reader, answers, errors, watch),
         JobName::Streams => streams_given(files, alloc, matches, reader, answers, errors, watch),
         JobName::Bounds => bounds_given(files, alloc, matches, reader, answers, errors, watch),
+        JobName::Plan => plan_for(files, alloc, matches, answers, errors, watch),
         JobName::Draw => draw_given(alloc, matches, reader, answers, errors, watch),
         JobName::Frames => frames_given(files, alloc, matches, reader, answers, errors, watch),
     }

@@ -16,6 +16,8 @@ pub(crate) enum JobName {
     Streams,
     /// Reports how long frames can ever wait.
     Bounds,
+    /// Finds a schedule for streams.
+    Plan,
     /// Draws the run of a script.
     Draw,
     /// Writes a table of frames.
@@ -33,6 +35,7 @@ impl JobName {
             JobName::Check => "check",
             JobName::Streams => "streams",
             JobName::Bounds => "bounds",
+            JobName::Plan => "plan",
             JobName::Draw => "draw",
             JobName::Frames => "frames",
         }

@@ -211,7 +211,7 @@ impl<'a, 'b, C: Clock, P: Write + Drop, E: Write> Onlooker<'a, 'b, C, P, E> {
                     self.warn_of_no_command();
                 }
             }
-            JobName::Streams | JobName::Bounds | JobName::Draw => {}
+            JobName::Streams | JobName::Bounds | JobName::Plan | JobName::Draw => {}
         }
     }
 

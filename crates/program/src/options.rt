@@ -13,6 +13,7 @@ use crate::job_name::JobName;
 use crate::onlooker::Looks;
 use clap::{Arg, ArgAction, ArgMatches, Command};
 use drawing::DrawValues;
+use plan::PlanWords;
 use schedule_check::CheckWords;
 use script::Values;
 use std::alloc::{AllocError, Global};
@@ -24,7 +25,7 @@ use traffic::StreamsWords;
 pub(crate) fn reads_input(words: &[String]) -> bool {
     let mut words = words.iter().skip(1).map(|word| word.as_str());
     let waits = match words.next() {
-        Some("replay") => false,
+        Some("replay" | "plan") => false,
         Some(name) => JOBS.iter().any(|job| job.name.text() == name),
         None => false,
     };
@@ -96,6 +97,23 @@ pub(crate) fn bounds_of<'a>(matches: &ArgMatches<'a>) -> BoundsWords<'a>
         why: is_given(matches, "why"),
         silent: matches.get_str("silent"),
         leftovers: is_given(matches, "leftovers"),
+    }
+}
+
+/// The values that a plan is given.
+pub(crate) fn plan_of<'a>(matches: &ArgMatches<'a>) -> PlanWords<'a>
+    ensures port { words_of_values result.port ≡ words_in (found_of matches.now) }
+    ensures explain { result.explain ≡ flag_in (codes "explain") (found_of matches.now) }
+{
+    PlanWords {
+        port: values_of(matches),
+        cycle: matches.get_str("cycle"),
+        entries: matches.get_str("entries"),
+        least_interval: matches.get_str("least-interval"),
+        device: matches.get_str("device"),
+        base_time: matches.get_str("base-time"),
+        share: is_given(matches, "share"),
+        explain: is_given(matches, "explain"),
     }
 }
 
@@ -418,6 +436,59 @@ const TABLE: Word = Word {
     without: None,
 };
 
+const CYCLE: Word = Word {
+    given: Given::Value,
+    name: "cycle",
+    value: "TIME",
+    help: "The cycle of the schedule, such as 1ms [default: one that all periods go into, or that goes into them]",
+    without: None,
+};
+
+const ENTRIES: Word = Word {
+    given: Given::Value,
+    name: "entries",
+    value: "NUMBER",
+    help: "How many entries the schedule has at most, 1 to 256 [default: 256]",
+    without: None,
+};
+
+const LEAST_INTERVAL: Word = Word {
+    given: Given::Value,
+    name: "least-interval",
+    value: "TIME",
+    help: "How long each entry is at the least, such as 2us [default: as long as the shortest frame]",
+    without: None,
+};
+
+const DEVICE: Word = Word {
+    given: Given::Value,
+    name: "device",
+    value: "NAME",
+    help: "The device of the schedule [default: eth0]",
+    without: None,
+};
+
+const BASE_TIME: Word = Word {
+    given: Given::Value,
+    name: "base-time",
+    value: "NS",
+    help: "The base time of the schedule, in nanoseconds [default: 0]",
+    without: None,
+};
+
+const SHARE: Word = Word {
+    given: Given::Flag,
+    name: "share",
+    value: "",
+    help: "Let lower classes without deadlines use what the windows of a class leave",
+    without: None,
+};
+
+const EXPLAIN_PLAN: Word = Word {
+    help: "Report what the plan leaves to class 0, and what bounds says of it, on standard error",
+    ..EXPLAIN
+};
+
 const BY_STREAM: Word = Word {
     given: Given::Value,
     name: "by-stream",
@@ -450,7 +521,7 @@ const WIDTH: Word = Word {
     without: None,
 };
 
-pub(crate) const JOBS: [Job; 7] = [
+pub(crate) const JOBS: [Job; 8] = [
     Job {
         name: JobName::Script,
         about: "Answers the lines of a script on standard input",
@@ -509,6 +580,23 @@ pub(crate) const JOBS: [Job; 7] = [
         about: "Reports how long the frames of the streams in a table can ever wait, by the schedule commands on standard input",
         words: &[
             RATE, MTU, ROOM, MAP, FRAMES, SILENT, LEFTOVERS, SLACK, WHY, STRICT, EXPLAIN, TABLE,
+        ],
+    },
+    Job {
+        name: JobName::Plan,
+        about: "Finds a schedule that meets the deadlines of the streams in a table, and writes its tc line",
+        words: &[
+            RATE,
+            MTU,
+            ROOM,
+            CYCLE,
+            ENTRIES,
+            LEAST_INTERVAL,
+            DEVICE,
+            BASE_TIME,
+            SHARE,
+            EXPLAIN_PLAN,
+            TABLE,
         ],
     },
     Job {

@@ -1,0 +1,24 @@
+//! A schedule that meets the deadlines of a table of streams.
+//!
+//! What a search finds is not believed: each schedule is written as a line, and that line and the table are given to
+//! `stream_bounds::bounds`. Only one by which a strict run finds nothing is answered. The claim is specs/Met.antt, and
+//! what is written specs/PlanEnd.antt; the contracts of `plan` and `answer_plan` cite them.
+#![tactic(auto)]
+
+mod classes;
+mod faults;
+mod judge;
+mod kept;
+mod octets;
+mod plan_job;
+mod plans;
+mod reasons;
+mod settings;
+mod text;
+
+pub use faults::{PlanFault, PlanInput};
+pub use octets::MAX_OCTETS;
+pub use plan_job::{answer_plan, end_with_plan_value, plan_given};
+pub use plans::plan;
+pub use reasons::Reason;
+pub use settings::{PlanSettings, PlanValue, PlanWords};
