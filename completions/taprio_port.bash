@@ -3,7 +3,7 @@ _taprio_port() {
     local current=${COMP_WORDS[COMP_CWORD]} previous=${COMP_WORDS[COMP_CWORD-1]} words values
     COMPREPLY=()
     if [ "$COMP_CWORD" -eq 1 ]; then
-        COMPREPLY=($(compgen -W 'script replay check streams bounds draw frames help --help --version' -- "$current"))
+        COMPREPLY=($(compgen -W 'script replay check streams bounds plan draw frames help --help --version' -- "$current"))
         return
     fi
     case ${COMP_WORDS[1]} in
@@ -12,6 +12,7 @@ _taprio_port() {
         check) words='--rate --mtu --map --shares --windows --frame --script --strict --explain --help' values='--rate --mtu --map --frame' ;;
         streams) words='--with --from --late --seed --strict --explain --help' values='--with --from --seed' ;;
         bounds) words='--rate --mtu --room --map --frames --silent --leftovers --slack --why --strict --explain --help' values='--rate --mtu --room --map --frames --silent' ;;
+        plan) words='--rate --mtu --room --cycle --entries --least-interval --device --base-time --share --explain --help' values='--rate --mtu --room --cycle --entries --least-interval --device --base-time' ;;
         draw) words='--rate --mtu --room --until --from --to --width --strict --explain --help' values='--rate --mtu --room --until --from --to --width' ;;
         frames) words='--rate --mtu --room --until --capture --by-stream --strict --explain --help' values='--rate --mtu --room --until --capture --by-stream' ;;
         *) return ;;

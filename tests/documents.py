@@ -360,7 +360,7 @@ def case_errors_has_each_name(program):
     texts, options = printed_texts()
     faults = [] if len(names) >= 40 and len(texts) >= 6 and len(options) >= 7 else [f"crates: only {len(names)}, {len(texts)}, {len(options)} texts are found: mend the expressions here"]
     text = (ROOT / page).read_text(encoding="utf-8")
-    own = {text for text in texts if "bad value" not in text and " line" not in text and not text.startswith("warning: ")}  # (warnings have one section)
+    own = {text for text in texts if "bad value" not in text and " line" not in text and not text.startswith(("warning: ", "note: "))}  # (warnings have one section, and notes)
     for name in sorted(names | own):
         if name not in has and not (name.startswith("capture ") and name in text):
             faults.append(f"{page}: it has no section for {name}")
