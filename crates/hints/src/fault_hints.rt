@@ -1,7 +1,7 @@
 //! Faults that end a run.
 
 use crate::marks::{Hint, put_hint, span_at};
-use crate::script_words::{bad_number, unknown_line, word_count};
+use crate::script_words::{bad_number, unknown_line, unknown_network_line, word_count};
 use answer_text::{Part, WriteFault, put_parts};
 use job::{CaptureKind, FaultKind, LineKind, ValueKind};
 use std::io::Write;
@@ -15,6 +15,7 @@ fn line_hint(kind: LineKind, line: &[u8]) -> Option<Hint> {
         LineKind::TooManyLines => Hint::plain(
             b"an input has at most 4000000 lines; where streams writes one, each frame takes a line, and each moment another",
         ),
+        LineKind::NoLink | LineKind::NoWay => Hint::plain(network_text(kind)),
         _ if line.is_empty() => return None,
         LineKind::UnknownLine => unknown_line(line, false),
         LineKind::UnknownTableLine => unknown_line(line, true),
@@ -31,8 +32,34 @@ fn line_hint(kind: LineKind, line: &[u8]) -> Option<Hint> {
             span_at(line, 0),
             b"in a replay frames come from the capture",
         ),
+        LineKind::UnknownNetworkLine => unknown_network_line(line),
+        LineKind::NoCommand => Hint::plain(
+            b"a schedule is one line: tc qdisc replace dev NAME root taprio .., and NAME is a port of the network",
+        ),
+        kind => Hint::plain(network_text(kind)),
     };
     Some(hint)
+}
+
+/// What helps with the fault of a network, or of the schedules of its ports.
+fn network_text(kind: LineKind) -> &'static [u8] {
+    match kind {
+        LineKind::BadName => b"a port's name is 1 to 15 octets, as of a device: sw1-p2",
+        LineKind::SecondPort =>
+            b"one port line says all that a port has: port NAME rate 100 room 64",
+        LineKind::SecondLink =>
+            b"one link line leads from a port to another; the way back has its own",
+        LineKind::SecondClocks => b"one clocks line says how far any two ports' clocks differ",
+        LineKind::PortTwice =>
+            b"behind via stand the ports that a frame crosses, in order, each once",
+        LineKind::NoLink => b"each step of a way needs its line: link FROM TO TIME",
+        LineKind::NoWay => b"with several ports each stream says its way: via NAME NAME ..",
+        LineKind::Deletion => b"a port without a schedule has no line here: its gates are open",
+        LineKind::UnknownPort => b"the word behind dev is a port of the network",
+        LineKind::Uncrossed =>
+            b"nothing would be judged: a stream's way names the port, or the line goes",
+        _ => b"each port has one schedule",
+    }
 }
 
 /// What the value of an option is.
@@ -58,6 +85,18 @@ fn value_text(kind: ValueKind) -> &'static [u8] {
         ValueKind::To =>
             b"--to is picoseconds, or a number with its unit such as 2ms, and after --from",
         ValueKind::Width => b"--width is a whole number of pixels from 400 to 2400",
+        ValueKind::Cycle =>
+            b"--cycle is a time of whole nanoseconds with its unit, such as 1ms: 1 ns to 4294967295 ns",
+        ValueKind::Entries => b"--entries is a whole number from 1 to 256",
+        ValueKind::LeastInterval =>
+            b"--least-interval is a time of whole nanoseconds with its unit, such as 10us: at most 4294967295 ns",
+        ValueKind::Device =>
+            b"--device is the name of a network device: 1 to 15 octets, such as eth0",
+        ValueKind::BaseTime =>
+            b"--base-time is a whole number of nanoseconds from 0 to 9223372036854775807",
+        ValueKind::Next => b"--next is the name of a port of the network",
+        ValueKind::Shift =>
+            b"--shift is picoseconds, or a number with its unit such as 37s, with - in front for an earlier moment",
     }
 }
 
@@ -78,6 +117,8 @@ fn capture_text(kind: CaptureKind) -> &'static [u8] {
         CaptureKind::BadFraction => b"the fraction of a time stamp is below a second",
         CaptureKind::TooManyRecords =>
             b"a capture has at most 4000000 records: editcap -c 4000000 IN OUT splits it",
+        CaptureKind::BadShift =>
+            b"with --shift each record comes at moment 0 or later, and at 4294967296000000000000 ps at most",
     }
 }
 

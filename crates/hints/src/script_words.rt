@@ -98,6 +98,8 @@ const CLOCK: [Role; 1] = [MOMENT];
 
 const COUNT_LINE: [Role; 1] = [CLASS];
 
+const CLOCKS: [Role; 1] = [TIME];
+
 const NONE: [Role; 0] = [];
 
 /// The first words of the lines of scripts.
@@ -106,6 +108,9 @@ const SCRIPT_LINES: [&[u8]; 5] = [b"clock", b"frame", b"query", b"count", b"tc"]
 /// The first word of the lines of tables.
 const TABLE_LINES: [&[u8]; 1] = [b"stream"];
 
+/// The first words of the lines of networks.
+const NETWORK_LINES: [&[u8]; 4] = [b"port", b"link", b"clocks", b"stream"];
+
 /// The words of a line of this kind.
 fn roles_of(kind: &[u8]) -> &'static [Role] {
     match kind {
@@ -113,6 +118,7 @@ fn roles_of(kind: &[u8]) -> &'static [Role] {
         b"stream" => &STREAM,
         b"clock" => &CLOCK,
         b"count" => &COUNT_LINE,
+        b"clocks" => &CLOCKS,
         _ => &NONE,
     }
 }
@@ -125,6 +131,9 @@ fn form_of(kind: &[u8]) -> &'static [u8] {
             b"a stream line is: stream ID PRIORITY LEN PERIOD OFFSET COUNT [tagged] [shortest LEN] [jitter TIME] [deadline TIME]",
         b"clock" => b"a clock line is: clock MOMENT",
         b"count" => b"a count line is: count CLASS",
+        b"port" => b"a port line is: port NAME [rate MBPS] [mtu OCTETS] [room FRAMES]",
+        b"link" => b"a link line is: link FROM TO TIME [TIME]",
+        b"clocks" => b"a clocks line is: clocks TIME",
         _ => b"a query line is: query",
     }
 }
@@ -186,13 +195,23 @@ fn first_bad(line: &[u8]) -> Option<(Span, &'static [u8])> {
     first_bad_part(line, words, word)
 }
 
+/// What else is asked of the numbers of a line of this kind.
+fn limits_of(kind: &[u8]) -> &'static [u8] {
+    match kind {
+        b"port" =>
+            b"rate is one of Mb/s, as --rate has it; mtu is 68 to 9216 octets, and room 1 to 4096 frames",
+        b"link" =>
+            b"TIME is a number with its unit: ps, ns, us, ms or s, such as 5us; the second is at least the first",
+        _ =>
+            b"a PERIOD is more than 0, the shortest LEN at most LEN, and ID and COUNT at most 2^64 together",
+    }
+}
+
 /// What helps with a line that has a bad number.
 pub(crate) fn bad_number(line: &[u8]) -> Hint {
     match first_bad(line) {
         Some((span, text)) => Hint::marked(Some(span), text),
-        None => Hint::plain(
-            b"a PERIOD is more than 0, the shortest LEN at most LEN, and ID and COUNT at most 2^64 together",
-        ),
+        None => Hint::plain(limits_of(word_at(line, 0).unwrap_or(b""))),
     }
 }
 
@@ -201,6 +220,9 @@ fn first_odd_part<'a>(line: &'a [u8], mut words: Words<'a>, first: &'a [u8]) -> 
     let mut name = first;
     let mut seen = 0;
     for _ in 0..3u8 {
+        if name == b"via".as_slice() {
+            return None;
+        }
         let Some((bit, _)) = part_of(name) else {
             return Some(span_of(line, &words, name));
         };
@@ -234,7 +256,11 @@ fn first_left_over(line: &[u8]) -> Option<Span> {
 
 /// What helps with a line that has too few or too many words.
 pub(crate) fn word_count(line: &[u8]) -> Hint {
-    let form = form_of(word_at(line, 0).unwrap_or(b""));
+    let kind = word_at(line, 0).unwrap_or(b"");
+    let form = form_of(kind);
+    if kind == b"port".as_slice() || kind == b"link".as_slice() {
+        return Hint::plain(form);
+    }
     match first_left_over(line) {
         Some(span) => Hint::marked(Some(span), form),
         None => Hint::marked(Some(span_behind(line)), form),
@@ -267,5 +293,14 @@ pub(crate) fn unknown_line(line: &[u8], of_table: bool) -> Hint {
         span,
         expected: b"a line of a script begins with clock, frame, query, count or tc; for check and bounds with tc",
         meant: nearest(word, &SCRIPT_LINES),
+    }
+}
+
+/// What helps with a line whose first word is none that a line of a network may have.
+pub(crate) fn unknown_network_line(line: &[u8]) -> Hint {
+    Hint {
+        span: span_at(line, 0),
+        expected: b"a line of a network begins with port, link, clocks or stream",
+        meant: nearest(word_at(line, 0).unwrap_or(b""), &NETWORK_LINES),
     }
 }

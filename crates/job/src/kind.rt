@@ -54,6 +54,32 @@ pub enum LineKind {
     ClockTooLate,
     /// `ClockTooLate`: the last frame of its stream would come after the greatest moment.
     StreamTooLate,
+    /// `UnknownLine`: its first word is none that a network may have.
+    UnknownNetworkLine,
+    /// `BadName`: a word is no name of a port.
+    BadName,
+    /// `SecondPort`: a line says of the same port what it has, already.
+    SecondPort,
+    /// `SecondLink`: a line says a link between the same ports, in this direction, already.
+    SecondLink,
+    /// `SecondClocks`: a line says by how much clocks differ, already.
+    SecondClocks,
+    /// `PortTwice`: a way goes over the same port twice.
+    PortTwice,
+    /// `NoLink`: a way goes from a port to one to which no link leads.
+    NoLink,
+    /// `NoWay`: a stream has no way, and there are several ports.
+    NoWay,
+    /// `tc-fault`: it is no command, where each line is the schedule of a port.
+    NoCommand,
+    /// `Deletion`: it deletes the schedule of a port, where each line is one.
+    Deletion,
+    /// `UnknownPort`: the network has no port of this name.
+    UnknownPort,
+    /// `Uncrossed`: no stream crosses the port of this name.
+    Uncrossed,
+    /// `SecondSchedule`: a line is a command for the same port, already.
+    SecondSchedule,
 }
 
 /// What is wrong with a capture.
@@ -75,6 +101,8 @@ pub enum CaptureKind {
     BadFraction,
     /// `TooManyRecords`: it has too many records.
     TooManyRecords,
+    /// `BadShift`: the time of a shift brings a record before moment 0, or past the greatest moment.
+    BadShift,
 }
 
 /// Whose value is bad.
@@ -106,6 +134,20 @@ pub enum ValueKind {
     To,
     /// `bad value of --width`.
     Width,
+    /// `bad value of --cycle`.
+    Cycle,
+    /// `bad value of --entries`.
+    Entries,
+    /// `bad value of --least-interval`.
+    LeastInterval,
+    /// `bad value of --device`.
+    Device,
+    /// `bad value of --base-time`.
+    BaseTime,
+    /// `bad value of --next`.
+    Next,
+    /// `bad value of --shift`.
+    Shift,
 }
 
 /// Where the end of a run is reported: its text, and what it was.
