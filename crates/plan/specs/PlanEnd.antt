@@ -6,6 +6,8 @@ use Rattle.octet_writer.specs.Writes.{AppendsFront}
 use Rattle.job.specs.RunEnd.{IsLetOut, IsRunEnding, IsUnanswered}
 use Rattle.job.specs.declared.fault.Fault.{Fault}
 use Rattle.job.specs.declared.fault.Fault.TheVariants as Faults
+use Rattle.job.specs.declared.kind.ValueKind.{ValueKind}
+use Rattle.job.specs.declared.kind.ValueKind.TheVariants as Options
 use Rattle.job.specs.declared.report.Ended.{Ended}
 use Rattle.plan.specs.Faults.{plan_telling, reason_text}
 use Rattle.plan.specs.Met.{IsMet}
@@ -14,6 +16,7 @@ use Rattle.plan.specs.declared.faults.PlanInput.TheVariants as Inputs
 use Rattle.plan.specs.declared.reasons.Reason.{Reason}
 use Rattle.plan.specs.declared.settings.PlanValue.{PlanValue}
 use Rattle.plan.specs.declared.settings.PlanValue.TheVariants as Values
+use Rattle.script.specs.Kinds.{value_kind}
 use Rattle.script.specs.Setup.{Setup}
 use Rattle.script.specs.Texts.{value_text}
 use Rattle.script.specs.declared.settings.BadValue.{BadValue}
@@ -56,6 +59,15 @@ plan_value_text Values.Entries = codes "taprio_port: bad value of --entries\n"
 plan_value_text Values.Least = codes "taprio_port: bad value of --least-interval\n"
 plan_value_text Values.Device = codes "taprio_port: bad value of --device\n"
 plan_value_text Values.Base = codes "taprio_port: bad value of --base-time\n"
+
+-- whose value is bad
+abbrev pub plan_value_kind : PlanValue → ValueKind
+plan_value_kind (Values.Port value) = value_kind value
+plan_value_kind Values.Cycle = Options.Cycle
+plan_value_kind Values.Entries = Options.Entries
+plan_value_kind Values.Least = Options.LeastInterval
+plan_value_kind Values.Device = Options.Device
+plan_value_kind Values.Base = Options.BaseTime
 
 -- the end of a run whose value is bad: nothing is answered, and the text says which one
 abbrev pub IsPlanRefusal : PlanValue → Ended → (old got errors_old errors_new : Option (List ℕ)) → Type 0

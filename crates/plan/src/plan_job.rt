@@ -151,9 +151,7 @@ pub fn end_with_plan_value<B: Allocator, W: Write + Drop, E: Errors>(
     ensures { IsPlanRefusal value result.0 (writer_contents W.contents answers) (W.contents result.1) (E.contents errors.old) (E.contents errors.new) }
 {
     let ended = say_plan_value(&value, errors);
-    if let PlanValue::Port(value) = value {
-        errors.found(FaultKind::Value(value.kind()));
-    }
+    errors.found(FaultKind::Value(value.kind()));
     end_told(ended, answers)
 }
 

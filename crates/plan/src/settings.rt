@@ -2,9 +2,9 @@
 
 ghost use Rattle.std.specs.Prelude.{◌≡◌};
 ghost use Rattle.job.specs.Texts.{IsTold};
-ghost use Rattle.plan.specs.PlanEnd.{plan_value_text};
+ghost use Rattle.plan.specs.PlanEnd.{plan_value_kind, plan_value_text};
 
-use job::Ended;
+use job::{Ended, ValueKind};
 use octet_writer::put;
 use script::{BadValue, Settings, Values, put_value};
 use std::io::Write;
@@ -66,6 +66,22 @@ pub enum PlanValue {
     Device,
     /// The base time is not 0 to 2^63 - 1.
     Base,
+}
+
+impl PlanValue {
+    /// Whose value it is.
+    pub fn kind(self) -> ValueKind
+        ensures { result ≡ plan_value_kind self }
+    {
+        match self {
+            PlanValue::Port(value) => value.kind(),
+            PlanValue::Cycle => ValueKind::Cycle,
+            PlanValue::Entries => ValueKind::Entries,
+            PlanValue::Least => ValueKind::LeastInterval,
+            PlanValue::Device => ValueKind::Device,
+            PlanValue::Base => ValueKind::BaseTime,
+        }
+    }
 }
 
 /// Writes the text of a bad value. The exit status that goes with it is 2, also where that write fails.
