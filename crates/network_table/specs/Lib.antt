@@ -4,3 +4,4 @@ pub mod Lines
 pub mod Network
 pub mod Reads
 pub mod ViaLaw
+pub mod Faults

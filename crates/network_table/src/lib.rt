@@ -17,7 +17,7 @@ mod takes;
 mod via;
 mod ways;
 
-pub use faults::{BadNetwork, NetworkFault, NetworkRunFault};
+pub use faults::{BadNetwork, NetworkFault, NetworkRunFault, put_named_fault, put_second_fault};
 pub use name::{NAME_OCTETS, Name};
 pub use network::{Clocks, Network, NetworkLink, NetworkStream, PortSetting};
 pub use reader::read_network;

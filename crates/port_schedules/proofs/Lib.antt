@@ -1,0 +1,3 @@
+mod CommandLaws
+mod DeviceLaws
+mod LineLaws
