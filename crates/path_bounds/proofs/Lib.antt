@@ -1,0 +1,4 @@
+pub mod PickLaws
+pub mod PassLaws
+pub mod StartLaws
+pub mod StepLaws

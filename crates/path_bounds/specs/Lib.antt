@@ -1,0 +1,4 @@
+pub mod Hops
+pub mod Start
+pub mod Answers
+pub mod Judged
