@@ -2,7 +2,7 @@
 use Rattle.std.proofs.Common.{◌≡◌, ◌≢◌, ℕ, zero, suc, ◌+◌, ◌<◌, List, [], ◌∷◌, length, drop, Option, None, Some, Result, Ok, Err, refl, sym, ap, subst, ◌∙◌, arith, inl, inr}
 use Rattle.std.specs.Prelude.{◌⊎◌, IfSome, MatchOption}
 use Rattle.std.proofs.lemmas.List.{length-drop}
-use Rattle.capture.specs.Words.{CapFault, ShortHeader, BadMagic, BadVersion, BadLink, ShortRecord, LongRecord, BadFraction, TooManyRecords, Read, Write, Memory, Format, Whole, Entry, entry_at, rest_after, fault_at, AreRecords, HasOneReading, AnswersRecords}
+use Rattle.capture.specs.Words.{CapFault, ShortHeader, BadMagic, BadVersion, BadLink, ShortRecord, LongRecord, BadFraction, TooManyRecords, BadShift, Read, Write, Memory, Format, Whole, Entry, entry_at, rest_after, fault_at, AreRecords, HasOneReading, AnswersRecords}
 use Rattle.capture.specs.declared.reader.End.{End}
 use Rattle.capture.specs.declared.reader.End.TheVariants.{Broken}
 use Rattle.capture.specs.CaptureReader.{Left, octets_left, again, IsWanting, ReadsNext, Next}
@@ -58,6 +58,7 @@ read_or_not ShortRecord = inr (λ e. cc)
 read_or_not LongRecord = inr (λ e. cc)
 read_or_not BadFraction = inr (λ e. cc)
 read_or_not TooManyRecords = inr (λ e. cc)
+read_or_not BadShift = inr (λ e. cc)
 read_or_not Write = inr (λ e. cc)
 read_or_not Memory = inr (λ e. cc)
 

@@ -5,7 +5,7 @@ use Rattle.std.specs.declared.option.Option.{Option}
 use Rattle.std.specs.Io.KnownBytes.{Consumes, IsAtEnd}
 use Rattle.std.proofs.lemmas.List.{drop-append-le, drop_all, take_all, length-append, length-drop, length-take}
 use Rattle.std.proofs.lemmas.Bool.{le-ltb, lt-ltb}
-use Rattle.capture.specs.Words.{big_from-append, little_from-append, CapFault, Endian, Big, Little, Format, ShortHeader, BadMagic, BadVersion, BadLink, ShortRecord, LongRecord, BadFraction, TooManyRecords, Read, Write, Memory, u16_at, format_by_magic, header_format, format_of, is_header_fault, IsHeaderFault}
+use Rattle.capture.specs.Words.{big_from-append, little_from-append, CapFault, Endian, Big, Little, Format, ShortHeader, BadMagic, BadVersion, BadLink, ShortRecord, LongRecord, BadFraction, TooManyRecords, BadShift, Read, Write, Memory, u16_at, format_by_magic, header_format, format_of, is_header_fault, IsHeaderFault}
 use Rattle.capture.specs.FileHeader.{format_with}
 use Rattle.capture.proofs.RecordLemmas.{u32_at-front, u32_at-inner}
 
@@ -52,6 +52,7 @@ header_fault_is known ShortRecord kind p = absurd cc
 header_fault_is known LongRecord kind p = absurd cc
 header_fault_is known BadFraction kind p = absurd cc
 header_fault_is known TooManyRecords kind p = absurd cc
+header_fault_is known BadShift kind p = absurd cc
 header_fault_is known Read kind p = tt
 header_fault_is known Write kind p = absurd cc
 header_fault_is known Memory kind p = absurd cc

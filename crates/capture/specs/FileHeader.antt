@@ -1,7 +1,7 @@
 -- The file header of a capture, its first 24 octets (pcap-savefile(5), the per-file header).
 use Rattle.std.specs.Prelude.{◌≡◌, ⊤, ℕ, List, length, drop, Option, Some, None, Bool, true, false, Result, Ok, Err, IfSome, IsOk, nat_lt, ◌==◌, not, ◌||◌, if◌then◌else◌}
 use Rattle.capture.specs.declared.fault.CapFault.{CapFault}
-use Rattle.capture.specs.declared.fault.CapFault.TheVariants.{ShortHeader, BadMagic, BadVersion, BadLink, ShortRecord, LongRecord, BadFraction, TooManyRecords, Read, Write, Memory}
+use Rattle.capture.specs.declared.fault.CapFault.TheVariants.{ShortHeader, BadMagic, BadVersion, BadLink, ShortRecord, LongRecord, BadFraction, TooManyRecords, BadShift, Read, Write, Memory}
 use Rattle.capture.specs.declared.format.Endian.TheVariants.{Big, Little}
 use Rattle.capture.specs.declared.format.Resolution.{Resolution}
 use Rattle.capture.specs.declared.format.Resolution.TheVariants.{Micros, Nanos}
@@ -61,4 +61,5 @@ IsHeaderFault known ShortRecord = ⊥
 IsHeaderFault known LongRecord = ⊥
 IsHeaderFault known BadFraction = ⊥
 IsHeaderFault known TooManyRecords = ⊥
+IsHeaderFault known BadShift = ⊥
 IsHeaderFault known Write = ⊥

@@ -12,7 +12,7 @@ pub use Rattle.capture.specs.Layout.{IsSpelling}
 unfoldable pub use Rattle.capture.specs.Layout.{spelled_record_header}
 pub use Rattle.capture.specs.Step.{Step, is_record_fault}
 pub use Rattle.capture.specs.declared.fault.CapFault.{CapFault}
-pub use Rattle.capture.specs.declared.fault.CapFault.TheVariants.{BadFraction, BadLink, BadMagic, BadVersion, LongRecord, Memory, Read, ShortHeader, ShortRecord, TooManyRecords, Write}
+pub use Rattle.capture.specs.declared.fault.CapFault.TheVariants.{BadFraction, BadLink, BadMagic, BadShift, BadVersion, LongRecord, Memory, Read, ShortHeader, ShortRecord, TooManyRecords, Write}
 pub use Rattle.capture.specs.declared.format.Endian.{Endian}
 pub use Rattle.capture.specs.declared.format.Endian.TheVariants.{Big, Little}
 pub use Rattle.capture.specs.declared.format.Format.{Format}

@@ -21,6 +21,9 @@ pub enum CapFault {
     BadFraction,
     /// There are more than `MAX_RECORDS` records.
     TooManyRecords,
+    /// The moment of a record was moved, before moment 0 or past the last that is wanted. No reader finds it: who moves the
+    /// moments does.
+    BadShift,
     /// A read failed. It isn't tried again.
     Read,
     /// A write failed or took nothing. It isn't tried again.

@@ -5,7 +5,7 @@ use super::rows::{Given, Job, Runs};
 use job::Ended;
 use octet_writer::BufWriter;
 use refusing_heap::RefusingHeap;
-use replay::{Inputs, Outputs, Stamp, answer_replay};
+use replay::{Inputs, Outputs, Stamp, Timing, answer_replay};
 use schedule_check::{CheckWords, answer_check};
 use script::{Settings, Unwatched, Values, answer_script};
 use std::alloc::Global;
@@ -127,7 +127,10 @@ fn replay_tells(alloc: Global, settings: Settings) -> io::Result<bool> {
     let (ended, report, departures) = answer_replay(
         &heap,
         settings,
-        Stamp::Start,
+        Timing {
+            stamp: Stamp::Start,
+            shift: None,
+        },
         inputs,
         outputs,
         &mut errors,

@@ -209,6 +209,7 @@ opened known CapFaults.ShortRecord h = absurd h
 opened known CapFaults.LongRecord h = absurd h
 opened known CapFaults.BadFraction h = absurd h
 opened known CapFaults.TooManyRecords h = absurd h
+opened known CapFaults.BadShift h = absurd h
 opened known CapFaults.Read h = tt
 opened known CapFaults.Write h = absurd h
 opened known CapFaults.Memory h = tt

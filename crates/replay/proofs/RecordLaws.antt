@@ -5,15 +5,16 @@ use Rattle.std.specs.Io.KnownBytes.{Keeps as Holds}
 use Rattle.std.proofs.Math.ListN.{get_or}
 use Rattle.std.proofs.Math.Seq.{get_or-append_seam}
 use Rattle.std.proofs.lemmas.List.{length-append}
-use Rattle.replay.specs.Words.{Left, Next, left, AreRecords, frame_of, Entry, CapFault, Format, End, Whole, Broken, Arrive, kept, Origin, Request, Asks, Came, Timed, before_end, came_from, lines_after, lines_by, lines_past, requests_of, Got, kept_in, Comes, EndsSo, found, RunsRecords, Answers, Keeps, State, IsSoundPort, Stop}
+use Rattle.replay.specs.Words.{Left, Next, left, AreRecords, frame_of, Entry, CapFault, Format, End, Whole, Broken, Arrive, kept, Origin, Request, Asks, Came, Timed, before_end, came_from, lines_after, lines_by, lines_past, requests_of, Got, kept_in, Comes, ComesMoved, EndsSo, found, RunsRecords, Answers, Keeps, State, IsSoundPort, Shift, Stop, moved, moved_moment, moved_reading}
 use Rattle.capture.specs.CaptureReader.{IsWanting, ReadsNext, again, octets_left, record_shown, shown}
 use Rattle.capture.specs.Records.{entry_at, fault_at, rest_after}
 use Rattle.capture.specs.declared.format.RecordHeader.{RecordHeader}
 use Rattle.capture.specs.declared.reader.CaptureReader.{CaptureReader}
-use Rattle.capture.specs.declared.fault.CapFault.TheVariants.{ShortHeader, BadMagic, BadVersion, BadLink, ShortRecord, LongRecord, BadFraction, TooManyRecords, Read, Write, Memory}
+use Rattle.capture.specs.declared.fault.CapFault.TheVariants.{ShortHeader, BadMagic, BadVersion, BadLink, ShortRecord, LongRecord, BadFraction, TooManyRecords, BadShift, Read, Write, Memory}
 use Rattle.abstract_port.specs.declared.Event.TheVariants.{Clock}
 use Rattle.replay.specs.Outputs.{no_entry}
 use Rattle.replay.specs.RecordsLeft.{ending}
+use Rattle.replay.specs.Shifts.{with_moved}
 use Rattle.replay.specs.declared.faults.Stop.TheVariants as Stops
 use Rattle.replay.proofs.Sends.{never}
 use Rattle.replay.proofs.RunLaws.{Done, done_all, done_exit, done_kept, done_more, done_stop}
@@ -52,6 +53,7 @@ found_by number ShortRecord = inr (λ e. cc, refl)
 found_by number LongRecord = inr (λ e. cc, refl)
 found_by number BadFraction = inr (λ e. cc, refl)
 found_by number TooManyRecords = inr (λ e. cc, refl)
+found_by number BadShift = inr (λ e. cc, refl)
 found_by number Write = inr (λ e. cc, refl)
 found_by number Memory = inr (λ e. cc, refl)
 
@@ -106,15 +108,23 @@ kept-at es front rest e number split count =
 
 -- ---- the records so far
 
--- So many records are taken, each after the lines up to its moment; `rest` is still to come, and P holds of what is asked with it.
-pub record Taken {R : Type 0} (P : List Request → Type 0) (remaining : R → Option (List ℕ)) (entries : List Entry) (last : End) (reader : Left R) (latest number : ℕ) (all lines : List Timed) : Type 0 where
+-- So many records are taken, each after the lines up to its moment; `rest` is still to come, as C says, and P holds of what is asked with it.
+pub record TakenOf (P : List Request → Type 0) (C : List Entry → Type 0) (entries : List Entry) (latest number : ℕ) (all lines : List Timed) : Type 0 where
   pub front : List Entry
   pub rest : List Entry
   pub split : entries ≡ front ++ rest
   pub count : length front ≡ number
-  pub comes : Comes remaining reader rest last
+  pub comes : C rest
   pub left : lines_after lines (came_from latest number rest) ≡ lines_after all (came_from 0 0 entries)
   pub asked : P (before_end lines (came_from latest number rest))
+
+-- those of a reader
+abbrev pub Taken : {R : Type 0} (P : List Request → Type 0) (remaining : R → Option (List ℕ)) (entries : List Entry) (last : End) (reader : Left R) (latest number : ℕ) (all lines : List Timed) → Type 0
+Taken P remaining entries last reader latest number all lines = TakenOf P (λ rest. Comes remaining reader rest last) entries latest number all lines
+
+-- and those of a reader, moved
+abbrev pub TakenMoved : {R : Type 0} (P : List Request → Type 0) (shift : Option Shift) (remaining : R → Option (List ℕ)) (entries : List Entry) (last : End) (reader : Left R) (latest number : ℕ) (all lines : List Timed) → Type 0
+TakenMoved P shift remaining entries last reader latest number all lines = TakenOf P (λ rest. ComesMoved shift remaining reader rest last) entries latest number all lines
 
 -- No record is left, and they end so.
 pub record AreOver (P : List Request → Type 0) (entries : List Entry) (last : End) (all lines : List Timed) (found : Option (ℕ × CapFault)) : Type 0 where
@@ -123,51 +133,86 @@ pub record AreOver (P : List Request → Type 0) (entries : List Entry) (last : 
   pub asked : P []
 
 -- before the first
+pub none_taken : {P : List Request → Type 0} {C : List Entry → Type 0} {entries : List Entry} {all : List Timed} → C entries → P (before_end all (came_from 0 0 entries)) → TakenOf P C entries 0 0 all all
+none_taken {entries = entries} comes p = record { front = []; rest = entries; split = refl; count = refl; comes = comes; left = refl; asked = p }
+
 pub taken_none : {R : Type 0} {P : List Request → Type 0} {remaining : R → Option (List ℕ)} {entries : List Entry} {last : End} {reader : Left R} {all : List Timed} → Comes remaining reader entries last → P (before_end all (came_from 0 0 entries))
     → Taken P remaining entries last reader 0 0 all all
-taken_none {entries = entries} comes p = record { front = []; rest = entries; split = refl; count = refl; comes = comes; left = refl; asked = p }
+taken_none comes p = none_taken comes p
 
-module _ {R : Type 0} {P : List Request → Type 0} {remaining : R → Option (List ℕ)} {entries : List Entry} {last : End} {reader : Left R} {latest number : ℕ} {all lines : List Timed} (t : Taken P remaining entries last reader latest number all lines) where
+module _ {P : List Request → Type 0} {C : List Entry → Type 0} {entries : List Entry} {latest number : ℕ} {all lines : List Timed} (t : TakenOf P C entries latest number all lines) where
   -- what holds of it changes
-  pub taken_map : {Q : List Request → Type 0} → ((rs : List Request) → P rs → Q rs) → Taken Q remaining entries last reader latest number all lines
+  pub taken_map : {Q : List Request → Type 0} → ((rs : List Request) → P rs → Q rs) → TakenOf Q C entries latest number all lines
   taken_map f = record { front = t.front; rest = t.rest; split = t.split; count = t.count; comes = t.comes; left = t.left; asked = f _ t.asked }
 
-  module _ (after : Left R) (begun : reader.ended ≡ None) where
-    are_over : (found : Option (ℕ × CapFault)) → t.rest ≡ [] → EndsSo entries last found → AreOver P entries last all lines found
-    are_over found none is = record {
-      ending = is;
-      left = sym (ap (λ (xs : List Entry). lines_after lines (came_from latest number xs)) none) ∙ t.left;
-      asked = subst (λ (xs : List Entry). P (before_end lines (came_from latest number xs))) none t.asked;
+  -- none is left
+  are_over : (last : End) (found : Option (ℕ × CapFault)) → t.rest ≡ [] → EndsSo entries last found → AreOver P entries last all lines found
+  are_over last found none is = record {
+    ending = is;
+    left = sym (ap (λ (xs : List Entry). lines_after lines (came_from latest number xs)) none) ∙ t.left;
+    asked = subst (λ (xs : List Entry). P (before_end lines (came_from latest number xs))) none t.asked;
+  }
+
+  whole_end : (last : End) → t.rest ≡ [] → last ≡ Whole → AreOver P entries last all lines None
+  whole_end last none is = are_over last None none (sym (ap (λ (e : End). ending entries e) is))
+
+  broken_end : (last : End) (f : CapFault) → t.rest ≡ [] → last ≡ Broken f → AreOver P entries last all lines (Some (number, f))
+  broken_end last f none is =
+      let counted = ap (λ (xs : List Entry). length xs) (t.split ∙ ap (λ (xs : List Entry). t.front ++ xs) none ∙ append-nil t.front) ∙ t.count in
+      are_over last (Some (number, f)) none (sym (ap (λ (e : End). ending entries e) is ∙ ap (λ (k : ℕ). Some (k, f)) counted))
+
+  -- a record is taken, after the lines up to its moment
+  module _ {D : List Entry → Type 0} (e : Entry) (next : (rest : List Entry) × (t.rest ≡ e ∷ rest) × D rest) {m : ℕ} (is : m ≡ max latest e.moment) where
+    here : came_from latest number t.rest ≡ record { moment = m; number = number; entry = e } ∷ came_from m (number + 1) next.0
+    here =
+        ap (λ (xs : List Entry). came_from latest number xs) next.1
+        ∙ ap (λ (k : ℕ). record { moment = k; number = number; entry = e } ∷ came_from k (number + 1) next.0) (sym is)
+
+    -- what it asks, and what is asked behind it
+    abbrev its_of : List Request
+    its_of = Asks (Clock m) ∷ Asks (Arrive (frame_of e number)) ∷ []
+
+    abbrev behind_of : List Request
+    behind_of = before_end (lines_past m lines) (came_from m (number + 1) next.0)
+
+    asked_of : P (requests_of (lines_by m lines) ++ (its_of ++ behind_of))
+    asked_of = subst P (ap (λ (cs : List Came). before_end lines cs) here) t.asked
+
+    record_of : kept_in entries number ≡ kept e.original e.octets
+    record_of = kept-at entries t.front next.0 e number (t.split ∙ ap (λ (xs : List Entry). t.front ++ xs) next.1) t.count
+
+    next_of : {Q : List Request → Type 0} {lines' : List Timed} → lines' ≡ lines_past m lines → Q behind_of → TakenOf Q D entries m (number + 1) all lines'
+    next_of {Q} past q = record {
+      front = t.front ++ e ∷ [];
+      rest = next.0;
+      split = t.split ∙ ap (λ (xs : List Entry). t.front ++ xs) next.1 ∙ sym (append_assoc t.front (e ∷ []) next.0);
+      count = length-append t.front (e ∷ []) ∙ ap (λ (k : ℕ). k + 1) t.count;
+      comes = next.2;
+      left =
+          ap (λ (ls : List Timed). lines_after ls (came_from m (number + 1) next.0)) past
+          ∙ sym (ap (λ (cs : List Came). lines_after lines cs) here) ∙ t.left;
+      asked = subst (λ (ls : List Timed). Q (before_end ls (came_from m (number + 1) next.0))) (sym past) q;
     }
 
+module _ {R : Type 0} {P : List Request → Type 0} {remaining : R → Option (List ℕ)} {entries : List Entry} {last : End} {reader : Left R} {latest number : ℕ} {all lines : List Timed} (t : Taken P remaining entries last reader latest number all lines) where
+  module _ (after : Left R) (begun : reader.ended ≡ None) where
     -- the end was answered
     pub over_whole : Next remaining reader (Ok None) after → AreOver P entries last all lines None
-    over_whole p =
-        let n = next_end remaining reader after t.rest last begun t.comes p in
-        are_over None n.0 (sym (ap (λ (e : End). ending entries e) n.1))
-
-    over_broken : (f : CapFault) → f ≢ Read → Next remaining reader (Err f) after → AreOver P entries last all lines (Some (number, f))
-    over_broken f other p =
-        let n = next_fault remaining reader after t.rest last begun t.comes f p other in
-        let counted = ap (λ (xs : List Entry). length xs) (t.split ∙ ap (λ (xs : List Entry). t.front ++ xs) n.0 ∙ append-nil t.front) ∙ t.count in
-        are_over (Some (number, f)) n.0 (sym (ap (λ (e : End). ending entries e) n.1 ∙ ap (λ (k : ℕ). Some (k, f)) counted))
+    over_whole p = let n = next_end remaining reader after t.rest last begun t.comes p in whole_end t last n.0 n.1
 
     -- a fault was answered: what holds where a read failed, and at each end, holds of what is found
     pub over_found : (Q : Result (Option (ℕ × CapFault)) Stop → Type 0) → Q (Err Stops.Read) → ((o : Option (ℕ × CapFault)) → AreOver P entries last all lines o → Q (Ok o)) → (f : CapFault) → Next remaining reader (Err f) after → Q (found number f)
     over_found Q failed ended f p = elim (found_by number f) [
       | inl w ↦ subst Q (sym w.1) failed
-      | inr w ↦ subst Q (sym w.1) (ended (Some (number, f)) (over_broken f w.0 p))
+      | inr w ↦
+          let n = next_fault remaining reader after t.rest last begun t.comes f p w.0 in
+          subst Q (sym w.1) (ended (Some (number, f)) (broken_end t last f n.0 n.1))
     ]
 
     -- a record is taken, after the lines up to its moment
     module _ (e : Entry) (p : Next remaining reader (Ok (Some e)) after) {m : ℕ} (is : m ≡ max latest e.moment) where
       pub taken_rest : (rest : List Entry) × (t.rest ≡ e ∷ rest) × Comes remaining after rest last
       taken_rest = next_record remaining reader after t.rest last begun t.comes e p
-
-      here : came_from latest number t.rest ≡ record { moment = m; number = number; entry = e } ∷ came_from m (number + 1) taken_rest.0
-      here =
-          ap (λ (xs : List Entry). came_from latest number xs) taken_rest.1
-          ∙ ap (λ (k : ℕ). record { moment = k; number = number; entry = e } ∷ came_from k (number + 1) taken_rest.0) (sym is)
 
       -- what it asks, and what is asked behind it
       abbrev pub its : List Request
@@ -177,23 +222,67 @@ module _ {R : Type 0} {P : List Request → Type 0} {remaining : R → Option (L
       behind = before_end (lines_past m lines) (came_from m (number + 1) taken_rest.0)
 
       pub asked_now : P (requests_of (lines_by m lines) ++ (its ++ behind))
-      asked_now = subst P (ap (λ (cs : List Came). before_end lines cs) here) t.asked
-
-      pub its_record : kept_in entries number ≡ kept e.original e.octets
-      its_record = kept-at entries t.front taken_rest.0 e number (t.split ∙ ap (λ (xs : List Entry). t.front ++ xs) taken_rest.1) t.count
+      asked_now = asked_of t e taken_rest is
 
       pub taken_next : {Q : List Request → Type 0} {lines' : List Timed} → lines' ≡ lines_past m lines → Q behind → Taken Q remaining entries last after m (number + 1) all lines'
-      taken_next {Q} past q = record {
-        front = t.front ++ e ∷ [];
-        rest = taken_rest.0;
-        split = t.split ∙ ap (λ (xs : List Entry). t.front ++ xs) taken_rest.1 ∙ sym (append_assoc t.front (e ∷ []) taken_rest.0);
-        count = length-append t.front (e ∷ []) ∙ ap (λ (k : ℕ). k + 1) t.count;
-        comes = taken_rest.2;
-        left =
-            ap (λ (ls : List Timed). lines_after ls (came_from m (number + 1) taken_rest.0)) past
-            ∙ sym (ap (λ (cs : List Came). lines_after lines cs) here) ∙ t.left;
-        asked = subst (λ (ls : List Timed). Q (before_end ls (came_from m (number + 1) taken_rest.0))) (sym past) q;
-      }
+      taken_next past q = next_of t e taken_rest is past q
+
+-- ---- moved records
+
+-- the front of records that are moved: nothing is left of the first that can't be, and of those behind it
+moved_cases : (shift : Option Shift) (e : Entry) (rest : List Entry) (last : End) (es : List Entry) (end_is : End) (o : Option ℕ) → moved_moment shift e.moment ≡ o → moved shift (e ∷ rest) last ≡ (es, end_is) → with_moved e o (moved shift rest last) ≡ (es, end_is)
+moved_cases shift e rest last es end_is o is all = subst (λ (x : Option ℕ). with_moved e x (moved shift rest last) ≡ (es, end_is)) is all
+
+module _ {R : Type 0} (shift : Option Shift) (remaining : R → Option (List ℕ)) (l after : Left R) (es : List Entry) (last : End) (begun : l.ended ≡ None) (comes : ComesMoved shift remaining l es last) where
+  -- of records whose first is this
+  first_moved : (e : Entry) (rest : List Entry) (o : Option ℕ) → comes.read ≡ e ∷ rest → moved_moment shift e.moment ≡ o → with_moved e o (moved shift rest comes.read_last) ≡ (es, last)
+  first_moved e rest o first is = moved_cases shift e rest comes.read_last es last o is (subst (λ (xs : List Entry). moved shift xs comes.read_last ≡ (es, last)) first comes.are_moved)
+
+  -- a record was answered that can be moved
+  pub moved_record : (e : Entry) (moment : ℕ) → Next remaining l (Ok (Some e)) after → moved_moment shift e.moment ≡ Some moment → (rest : List Entry) × (es ≡ record e { moment = moment } ∷ rest) × ComesMoved shift remaining after rest last
+  moved_record e moment p is =
+      let n = next_record remaining l after comes.read comes.read_last begun comes.comes e p in
+      let both = first_moved e n.0 (Some moment) n.1 is in
+      let behind = moved shift n.0 comes.read_last in
+      (behind.0, sym (ap (λ (x : List Entry × End). x.0) both), record { read = n.0; read_last = comes.read_last; comes = n.2; are_moved = ap (λ (x : End). (behind.0, x)) (ap (λ (x : List Entry × End). x.1) both) })
+
+  -- and one that can't be
+  pub moved_none : (e : Entry) → Next remaining l (Ok (Some e)) after → moved_moment shift e.moment ≡ None → (es ≡ []) × (last ≡ Broken BadShift)
+  moved_none e p is =
+      let n = next_record remaining l after comes.read comes.read_last begun comes.comes e p in
+      let both = first_moved e n.0 None n.1 is in
+      (sym (ap (λ (x : List Entry × End). x.0) both), sym (ap (λ (x : List Entry × End). x.1) both))
+
+  -- none was left to be moved
+  none_moved : comes.read ≡ [] → (es ≡ []) × (last ≡ comes.read_last)
+  none_moved none =
+      let both = subst (λ (xs : List Entry). moved shift xs comes.read_last ≡ (es, last)) none comes.are_moved in
+      (sym (ap (λ (x : List Entry × End). x.0) both), sym (ap (λ (x : List Entry × End). x.1) both))
+
+  pub moved_end : Next remaining l (Ok None) after → (es ≡ []) × (last ≡ Whole)
+  moved_end p =
+      let n = next_end remaining l after comes.read comes.read_last begun comes.comes p in
+      let m = none_moved n.0 in
+      (m.0, m.1 ∙ n.1)
+
+  pub moved_fault : (f : CapFault) → Next remaining l (Err f) after → f ≢ Read → (es ≡ []) × (last ≡ Broken f)
+  moved_fault f p other =
+      let n = next_fault remaining l after comes.read comes.read_last begun comes.comes f p other in
+      let m = none_moved n.0 in
+      (m.0, m.1 ∙ n.1)
+
+-- a reader's records, moved
+pub comes_moved : {R : Type 0} (shift : Option Shift) (remaining : R → Option (List ℕ)) (l : Left R) (es : List Entry) (last : End) → Comes remaining l es last → ComesMoved shift remaining l (moved shift es last).0 (moved shift es last).1
+comes_moved shift remaining l es last comes = record { read = es; read_last = last; comes = comes; are_moved = refl }
+
+-- where no moment is moved
+pub unmoved : (es : List Entry) (last : End) → moved None es last ≡ (es, last)
+unmoved [] last = refl
+unmoved (e ∷ es) last = ap (λ (behind : List Entry × End). with_moved e (Some e.moment) behind) (unmoved es last)
+
+pub unmoved_reading : (records : Result (List Entry × End) CapFault) → moved_reading None records ≡ records
+unmoved_reading (Ok records) = ap (λ (x : List Entry × End). Ok x) (unmoved records.0 records.1)
+unmoved_reading (Err fault) = refl
 
 -- ---- the run so far
 
@@ -206,17 +295,17 @@ abbrev pub AreAnswered : Origin → List Timed → State → State → List Requ
 AreAnswered es all s t rs = Keeps es s → Done es s t rs (asked all es.entries)
 
 -- what was written is let out
-pub let_out : {R : Type 0} {remaining : R → Option (List ℕ)} {es : Origin} {last : End} {reader : Left R} {latest number : ℕ} {all lines : List Timed} {s t : State} {h : Got}
-    → Taken (AreAnswered es all s t) remaining es.entries last reader latest number all lines → Holds t.got.report h.report → Holds t.got.departures h.departures
-    → Taken (AreAnswered es all s (record t { got = h })) remaining es.entries last reader latest number all lines
+pub let_out : {C : List Entry → Type 0} {es : Origin} {latest number : ℕ} {all lines : List Timed} {s t : State} {h : Got}
+    → TakenOf (AreAnswered es all s t) C es.entries latest number all lines → Holds t.got.report h.report → Holds t.got.departures h.departures
+    → TakenOf (AreAnswered es all s (record t { got = h })) C es.entries latest number all lines
 let_out {h = h} st report departures = taken_map st (λ rs run k. done_kept h (run k) report departures)
 
 -- what is answered, whatever the call answers
 same_ok : {T U : Type 0} {x : T} (y : U) (es : Origin) (rs : List Request) (s t : State) → Answers {T = T} es (Ok x) rs s t → Answers {T = U} es (Ok y) rs s t
 same_ok {T} {U} {x} y es rs s t a = record { port = a.port; keeps = a.keeps; seen = a.seen; out = record { left = a.out.left; sent = a.out.sent; all = a.out.all } }
 
-module _ {R : Type 0} {remaining : R → Option (List ℕ)} {es : Origin} {last : End} {reader : Left R} {latest number : ℕ} {all lines : List Timed} {s t : State} (sound : IsSoundPort s.port)
-    (st : Taken (AreAnswered es all s t) remaining es.entries last reader latest number all lines) where
+module _ {R : Type 0} {shift : Option Shift} {remaining : R → Option (List ℕ)} {es : Origin} {last : End} {reader : Left R} {latest number : ℕ} {all lines : List Timed} {s t : State} (sound : IsSoundPort s.port)
+    (st : TakenMoved (AreAnswered es all s t) shift remaining es.entries last reader latest number all lines) where
   -- a call failed in what comes up to the last record
   fails : {y : Stop} {r : Result (Option (ℕ × CapFault)) Stop} {u : State} {lines' : List Timed} → r ≡ Err y → (Keeps es s → Answers es r (asked all es.entries) s u) → RunsRecords es last all lines' s u r
   fails failed a = record {
@@ -235,34 +324,60 @@ module _ {R : Type 0} {remaining : R → Option (List ℕ)} {es : Origin} {last 
   module _ (after : Left R) (begun : reader.ended ≡ None) where
     -- the end was answered
     pub over_well : Next remaining reader (Ok None) after → RunsRecords es last all lines s t (Ok None)
-    over_well p = ended None (over_whole st after begun p)
+    over_well p = let n = moved_end shift remaining reader after st.rest last begun st.comes p in ended None (whole_end st last n.0 n.1)
 
     -- a fault was answered
     pub over : (f : CapFault) → Next remaining reader (Err f) after → RunsRecords es last all lines s t (found number f)
-    over f p = over_found st after begun (λ (r : Result (Option (ℕ × CapFault)) Stop). RunsRecords es last all lines s t r) (stopped refl) ended f p
+    over f p =
+        let Q : Result (Option (ℕ × CapFault)) Stop → Type 0 = λ r. RunsRecords es last all lines s t r in
+        elim (found_by number f) [
+          | inl w ↦ subst Q (sym w.1) (stopped refl)
+          | inr w ↦
+              let n = moved_fault shift remaining reader after st.rest last begun st.comes f p w.0 in
+              subst Q (sym w.1) (ended (Some (number, f)) (broken_end st last f n.0 n.1))
+        ]
 
-    -- a record is taken, after the lines up to its moment
-    module _ (e : Entry) (p : Next remaining reader (Ok (Some e)) after) {m : ℕ} (is : m ≡ max latest e.moment) where
-      lines_done : {T : Type 0} {x : T} {u : State} → (Keeps es t → Answers {T = T} es (Ok x) (requests_of (lines_by m lines)) t u) → AreAnswered es all s u (its st after begun e p is ++ behind st after begun e p is)
-      lines_done {u = u} a k = let d = asked_now st after begun e p is k in done_more sound u (requests_of (lines_by m lines)) _ d refl (a d.answers.keeps)
+    -- a record can't be moved
+    pub over_shift : (e : Entry) → Next remaining reader (Ok (Some e)) after → moved_moment shift e.moment ≡ None → RunsRecords es last all lines s t (Ok (Some (number, BadShift)))
+    over_shift e p is = let n = moved_none shift remaining reader after st.rest last begun st.comes e p is in ended (Some (number, BadShift)) (broken_end st last BadShift n.0 n.1)
+
+    -- a record is taken, moved, after the lines up to its moment
+    module _ (e : Entry) (p : Next remaining reader (Ok (Some e)) after) (moment : ℕ) (shifts : moved_moment shift e.moment ≡ Some moment) {m : ℕ} (is : m ≡ max latest moment) where
+      rest_of : (rest : List Entry) × (st.rest ≡ record e { moment = moment } ∷ rest) × ComesMoved shift remaining after rest last
+      rest_of = moved_record shift remaining reader after st.rest last begun st.comes e moment p shifts
+
+      abbrev theirs : List Request
+      theirs = Asks (Clock m) ∷ Asks (Arrive (frame_of e number)) ∷ []
+
+      abbrev beyond : List Request
+      beyond = before_end (lines_past m lines) (came_from m (number + 1) rest_of.0)
+
+      ready : AreAnswered es all s t (requests_of (lines_by m lines) ++ (theirs ++ beyond))
+      ready = asked_of st (record e { moment = moment }) rest_of is
+
+      its_kept : kept_in es.entries number ≡ kept e.original e.octets
+      its_kept = record_of st (record e { moment = moment }) rest_of is
+
+      lines_done : {T : Type 0} {x : T} {u : State} → (Keeps es t → Answers {T = T} es (Ok x) (requests_of (lines_by m lines)) t u) → AreAnswered es all s u (theirs ++ beyond)
+      lines_done {u = u} a k = let d = ready k in done_more sound u (requests_of (lines_by m lines)) _ d refl (a d.answers.keeps)
 
       -- both are answered
       pub stands_next : {T U : Type 0} {x : T} {y : U} {u v : State} {lines' : List Timed} → lines' ≡ lines_past m lines
           → (Keeps es t → Answers {T = T} es (Ok x) (requests_of (lines_by m lines)) t u)
-          → (kept_in es.entries number ≡ kept e.original e.octets → Keeps es u → Answers {T = U} es (Ok y) (its st after begun e p is) u v)
-          → Taken (AreAnswered es all s v) remaining es.entries last after m (number + 1) all lines'
-      stands_next {v = v} past a b = taken_next st after begun e p is past (λ k.
+          → (kept_in es.entries number ≡ kept e.original e.octets → Keeps es u → Answers {T = U} es (Ok y) theirs u v)
+          → TakenMoved (AreAnswered es all s v) shift remaining es.entries last after m (number + 1) all lines'
+      stands_next {v = v} past a b = next_of st (record e { moment = moment }) rest_of is past (λ k.
           let d = lines_done a k in
-          done_more sound v (its st after begun e p is) _ d refl (b (its_record st after begun e p is) d.answers.keeps))
+          done_more sound v theirs _ d refl (b its_kept d.answers.keeps))
 
       -- the lines failed
       pub lines_fail : {U : Type 0} {y : Stop} {r : Result (Option (ℕ × CapFault)) Stop} {u : State} {lines' : List Timed} → r ≡ Err y → (Keeps es t → Answers {T = U} es (Err y) (requests_of (lines_by m lines)) t u) → RunsRecords es last all lines' s u r
-      lines_fail {r = r} {u = u} failed a = fails failed (λ k. let d = asked_now st after begun e p is k in done_exit sound r u (requests_of (lines_by m lines)) _ failed d refl (a d.answers.keeps))
+      lines_fail {r = r} {u = u} failed a = fails failed (λ k. let d = ready k in done_exit sound r u (requests_of (lines_by m lines)) _ failed d refl (a d.answers.keeps))
 
       -- the record failed
       pub record_fails : {U V : Type 0} {x : V} {y : Stop} {r : Result (Option (ℕ × CapFault)) Stop} {u v : State} {lines' : List Timed} → r ≡ Err y → (Keeps es t → Answers {T = V} es (Ok x) (requests_of (lines_by m lines)) t u)
-          → (kept_in es.entries number ≡ kept e.original e.octets → Keeps es u → Answers {T = U} es (Err y) (its st after begun e p is) u v)
+          → (kept_in es.entries number ≡ kept e.original e.octets → Keeps es u → Answers {T = U} es (Err y) theirs u v)
           → RunsRecords es last all lines' s v r
       record_fails {r = r} {v = v} failed a b = fails failed (λ k.
           let d = lines_done a k in
-          done_exit sound r v (its st after begun e p is) _ failed d refl (b (its_record st after begun e p is) d.answers.keeps))
+          done_exit sound r v theirs _ failed d refl (b its_kept d.answers.keeps))

@@ -2,7 +2,7 @@
 use Rattle.std.proofs.Common.{◌≡◌, List, ℕ, [], Option, Some, None, Result, Ok, Err, ◌⊎◌, inl, inr, sym, ap, ◌∙◌, subst}
 use Rattle.std.specs.Prelude.{IfSome}
 use Rattle.std.specs.Io.KnownBytes.{Keeps}
-use Rattle.replay.specs.Words.{Command, Entry, CapFault, End, IsReader, TcFault, IsTold, Setup, IsReplayEnding, Stamp, AppendsBoth, Ends, Outcome, ReadsAs, outcome_of, Got, Output, SentBoth, nothing, replay_telling, Fault, ReplayInput}
+use Rattle.replay.specs.Words.{Command, Entry, CapFault, End, IsReader, TcFault, IsTold, Setup, IsReplayEnding, Timing, AppendsBoth, Ends, Outcome, ReadsAs, timed_outcome, Got, Output, SentBoth, nothing, replay_telling, Fault, ReplayInput}
 use Rattle.job.specs.Texts.{run_status, run_text}
 use Rattle.job.specs.declared.report.Ended.{Ended}
 use Rattle.job.proofs.RunEndLaws.{appends_kept, sent_kept, sent_whole}
@@ -47,11 +47,11 @@ out_by before run old new whole (inl same) w = subst (λ r. Ends r old new whole
 out_by before run old new whole (inr failed) w = subst (λ r. Ends r old new whole) (sym failed) (front_of_end before old new whole w)
 
 -- what a call says of the octets of both inputs
-abbrev pub Says : Result (Unit {0}) (Fault ReplayInput) → Setup → Stamp → Option (List ℕ) → Option (List ℕ) → Got → Got → Type 0
-Says r s stamp script capture old new = (read : List (List ℕ) → Result Command TcFault) → IsReader read → IfSome script (λ lines. IfSome capture (λ octets.
-    (records : Result (List Entry × End) CapFault) → ReadsAs octets records → Ends r old new (outcome_of read s stamp lines records)))
+abbrev pub Says : Result (Unit {0}) (Fault ReplayInput) → Setup → Timing → Option (List ℕ) → Option (List ℕ) → Got → Got → Type 0
+Says r s timing script capture old new = (read : List (List ℕ) → Result Command TcFault) → IsReader read → IfSome script (λ lines. IfSome capture (λ octets.
+    (records : Result (List Entry × End) CapFault) → ReadsAs octets records → Ends r old new (timed_outcome read s timing lines records)))
 
-module _ (s : Setup) (stamp : Stamp) (ended : Ended) (old mid out got : Got) (errors_old errors_new : Option (List ℕ)) (unwritten : Output) (before run : Result (Unit {0}) (Fault ReplayInput)) where
+module _ (s : Setup) (timing : Timing) (ended : Ended) (old mid out got : Got) (errors_old errors_new : Option (List ℕ)) (unwritten : Output) (before run : Result (Unit {0}) (Fault ReplayInput)) where
   wrote : (script capture : Option (List ℕ)) (whole : List ℕ → Result (List Entry × End) CapFault → Outcome)
       → IfSome script (λ lines. IfSome capture (λ octets. (records : Result (List Entry × End) CapFault) → ReadsAs octets records → Ends before old mid (whole lines records)))
       → (run ≡ before) ⊎ (run ≡ Err Faults.Write) → KeepsBoth mid out → out ≡ with_unwritten got unwritten
@@ -61,14 +61,14 @@ module _ (s : Setup) (stamp : Stamp) (ended : Ended) (old mid out got : Got) (er
   wrote (Some lines) (Some octets) whole ends kept keeps same = λ records reads.
       subst (λ (o : Got). Ends run old o (whole lines records)) same (out_by before run old out (whole lines records) kept (ends_kept before old mid out (whole lines records) (ends records reads) keeps))
 
-  pub replay_ending : (script capture : Option (List ℕ)) → Says before s stamp script capture old mid
+  pub replay_ending : (script capture : Option (List ℕ)) → Says before s timing script capture old mid
       → (run ≡ before) ⊎ (run ≡ Err Faults.Write) → (unwritten ≡ nothing) ⊎ (run ≡ Err Faults.Write) → KeepsBoth mid out → out ≡ with_unwritten got unwritten
-      → ended.status ≡ run_status replay_telling run → IsTold ended.told errors_old errors_new (run_text replay_telling run) → IsReplayEnding s stamp script capture ended old got errors_old errors_new
+      → ended.status ≡ run_status replay_telling run → IsTold ended.told errors_old errors_new (run_text replay_telling run) → IsReplayEnding s timing script capture ended old got errors_old errors_new
   replay_ending script capture ends kept let_out keeps same status told = record {
     run = run;
     status = status;
     told = told;
-    left = record { unwritten = unwritten; let_out = let_out; wrote = λ read is. wrote script capture (outcome_of read s stamp) (ends read is) kept keeps same };
+    left = record { unwritten = unwritten; let_out = let_out; wrote = λ read is. wrote script capture (timed_outcome read s timing) (ends read is) kept keeps same };
   }
 
 -- both parts are empty

@@ -2,7 +2,7 @@
 use Rattle.std.specs.Prelude.{IfSome}
 use Rattle.std.specs.Io.KnownBytes.{prepend_known}
 use Rattle.std.proofs.Common.{◌≡◌, ℕ, List, [], length, drop, map, false, Option, Some, None, Result, Ok, Err, refl, sym, ap, ◌∙◌, subst}
-use Rattle.replay.specs.Words.{AbstractPort, new_port, Command, IsNewReader, Left, AreRecords, Entry, CapFault, Format, End, script_of, Reading, Request, Setup, BadLine, TcFault, Observed, watched, IsScriptFault, reading_of, came_from, merged, timed_from, Ends, IsOpenFault, Outcome, ReadsAs, end_fault, is_too_late, outcome_of, refused, told_to_end, Stored, new_store, Frame, Got, Origin, Stamp, kept_in, stamping_at, Keeps, State, Comes, Fault, ReplayInput}
+use Rattle.replay.specs.Words.{AbstractPort, new_port, Command, IsNewReader, Left, AreRecords, Entry, CapFault, Format, End, script_of, Reading, Request, Setup, BadLine, TcFault, Observed, watched, IsScriptFault, reading_of, came_from, merged, timed_from, Ends, IsOpenFault, Outcome, ReadsAs, end_fault, is_too_late, outcome_of, refused, told_to_end, Stored, new_store, Frame, Got, Origin, Stamp, Timing, kept_in, moved_reading, stamping_at, Keeps, State, Comes, Fault, ReplayInput}
 use Rattle.capture.specs.FileHeader.{format_of}
 use Rattle.replay.specs.Outcome.{outcome_read, outcome_said, outcome_whole}
 use Rattle.job.specs.declared.fault.Fault.TheVariants as Faults
@@ -41,15 +41,16 @@ module _ (read : List (List ℕ) → Result Command TcFault) (s : Setup) (stamp 
   script_refused T (Faults.Input Inputs.Until) r old is h = absurd h
   script_refused T (Faults.Input (Inputs.Capture number fault)) r old is h = absurd h
 
-header_read : (s : Setup) (stamp : Stamp) (script : List Request) (octets : List ℕ) (records : Result (List Entry × End) CapFault) (fault : CapFault) → ReadsAs octets records → format_of octets ≡ Err fault → outcome_read s stamp script records ≡ refused (Inputs.Capture 0 fault)
-header_read s stamp script octets (Ok x) fault reads e = absurd (let both = sym reads.1.0 ∙ e in cc)
-header_read s stamp script octets (Err f) fault reads e = (let both : Err f ≡ Err fault = sym reads ∙ e in cc)
+header_read : (s : Setup) (timing : Timing) (script : List Request) (octets : List ℕ) (records : Result (List Entry × End) CapFault) (fault : CapFault) → ReadsAs octets records → format_of octets ≡ Err fault
+    → outcome_read s timing.stamp script (moved_reading timing.shift records) ≡ refused (Inputs.Capture 0 fault)
+header_read s timing script octets (Ok x) fault reads e = absurd (let both = sym reads.1.0 ∙ e in cc)
+header_read s timing script octets (Err f) fault reads e = (let both : Err f ≡ Err fault = sym reads ∙ e in cc)
 
-module _ (s : Setup) (stamp : Stamp) (script : List Request) (octets : List ℕ) (records : Result (List Entry × End) CapFault) (reads : ReadsAs octets records) (o : Outcome) (is_o : o ≡ outcome_read s stamp script records) where
+module _ (s : Setup) (timing : Timing) (script : List Request) (octets : List ℕ) (records : Result (List Entry × End) CapFault) (reads : ReadsAs octets records) (o : Outcome) (is_o : o ≡ outcome_read s timing.stamp script (moved_reading timing.shift records)) where
   pub header_refused : (T : Type 0) (known : Option (List ℕ)) (e : Fault ReplayInput) (r : Result T (Fault ReplayInput)) (old : Got) → known ≡ Some octets → r ≡ Err e → IsOpenFault known e → Ends r old old o
   header_refused T known (Faults.Input (Inputs.Capture number fault)) r old is_known is h =
       refused_so {T = T} r (Inputs.Capture number fault) old o is
-      (is_o ∙ header_read s stamp script octets records fault reads (known_at known octets _ is_known h.1) ∙ ap (λ (n : ℕ). refused (Inputs.Capture n fault)) (sym h.0)) (refused_header T number fault old)
+      (is_o ∙ header_read s timing script octets records fault reads (known_at known octets _ is_known h.1) ∙ ap (λ (n : ℕ). refused (Inputs.Capture n fault)) (sym h.0)) (refused_header T number fault old)
   header_refused T known Faults.Read r old is_known is h = subst (λ (q : Result T (Fault ReplayInput)). Ends q old old o) (sym is) (o.output, both_none old _)
   header_refused T known Faults.Memory r old is_known is h = subst (λ (q : Result T (Fault ReplayInput)). Ends q old old o) (sym is) (o.output, both_none old _)
   header_refused T known Faults.Write r old is_known is h = absurd h

@@ -1,6 +1,6 @@
 -- What the faults of a replay are, where the faults of all jobs are told apart.
 use Rattle.capture.specs.declared.fault.CapFault.{CapFault}
-use Rattle.capture.specs.declared.fault.CapFault.TheVariants.{ShortHeader, BadMagic, BadVersion, BadLink, ShortRecord, LongRecord, BadFraction, TooManyRecords, Read, Write, Memory}
+use Rattle.capture.specs.declared.fault.CapFault.TheVariants.{ShortHeader, BadMagic, BadVersion, BadLink, ShortRecord, LongRecord, BadFraction, TooManyRecords, BadShift, Read, Write, Memory}
 use Rattle.job.specs.declared.kind.CaptureKind.TheVariants as Captures
 use Rattle.job.specs.declared.kind.FaultKind.{FaultKind}
 use Rattle.job.specs.declared.kind.FaultKind.TheVariants as Kinds
@@ -19,6 +19,7 @@ capture_kind ShortRecord = Kinds.Capture Captures.ShortRecord
 capture_kind LongRecord = Kinds.Capture Captures.LongRecord
 capture_kind BadFraction = Kinds.Capture Captures.BadFraction
 capture_kind TooManyRecords = Kinds.Capture Captures.TooManyRecords
+capture_kind BadShift = Kinds.Capture Captures.BadShift
 capture_kind Read = Kinds.ReadFailed
 capture_kind Write = Kinds.WriteFailed
 capture_kind Memory = Kinds.OutOfMemory

@@ -6,6 +6,8 @@ pub mod RunEnd
 pub mod Merge
 pub mod Sources
 pub mod Stamps
+pub mod Shifts
+pub mod Timing
 pub mod Outputs
 pub mod Queued
 pub mod RunState

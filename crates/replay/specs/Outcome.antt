@@ -26,12 +26,14 @@ use Rattle.replay.specs.Lines.{reading_of}
 use Rattle.replay.specs.Merge.{came_from, merged, timed_from, to_run_end}
 use Rattle.replay.specs.Outputs.{Got, Origin, Output, SentBoth, joined, nothing, output}
 use Rattle.replay.specs.RunEnd.{counted_to, rest_moment}
+use Rattle.replay.specs.Shifts.{moved_reading}
 use Rattle.replay.specs.Stamps.{stamping_at}
 use Rattle.job.specs.declared.fault.Fault.{Fault}
 use Rattle.job.specs.declared.fault.Fault.TheVariants as Faults
 use Rattle.replay.specs.declared.faults.ReplayInput.{ReplayInput}
 use Rattle.replay.specs.declared.faults.ReplayInput.TheVariants as Inputs
 use Rattle.replay.specs.declared.stamps.Stamp.{Stamp}
+use Rattle.replay.specs.declared.timing.Timing.{Timing}
 
 -- 1. What a capture says
 
@@ -122,6 +124,10 @@ abbrev pub outcome_of : (List (List ℕ) → Result Command TcFault) → Setup �
 outcome_of read s stamp script capture =
     if is_too_late s.until then refused Inputs.Until
     else let reading = reading_of read (script_of script) in outcome_said s stamp reading.requests reading.fault capture
+
+-- and where the moments of the capture's records are moved: that of the records so moved
+abbrev pub timed_outcome : (List (List ℕ) → Result Command TcFault) → Setup → Timing → List ℕ → Result (List Entry × End) CapFault → Outcome
+timed_outcome read s timing script capture = outcome_of read s timing.stamp script (moved_reading timing.shift capture)
 
 -- both outputs were written whole
 pub record AppendsBoth (old new : Got) (whole : Output) : Type 0 where

@@ -7,14 +7,23 @@ use Rattle.capture.specs.declared.fault.CapFault.{CapFault}
 use Rattle.capture.specs.declared.fault.CapFault.TheVariants.{Read}
 use Rattle.capture.specs.declared.reader.End.{End}
 use Rattle.capture.specs.declared.reader.End.TheVariants.{Whole, Broken}
+use Rattle.replay.specs.Shifts.{moved}
 use Rattle.replay.specs.declared.faults.Stop.{Stop}
 use Rattle.replay.specs.declared.faults.Stop.TheVariants as Stops
+use Rattle.replay.specs.declared.shifts.Shift.{Shift}
 
 -- these records come, and then this end
 pub record Comes {R : Type 0} (remaining : R → Option (List ℕ)) (l : Left R) (entries : List Entry) (last : End) : Type 0 where
   pub octets : List ℕ
   pub known : octets_left remaining l ≡ Some octets
   pub are : AreRecords l.format l.number octets entries last
+
+-- of these records, moved so, these come, and then this end
+pub record ComesMoved {R : Type 0} (shift : Option Shift) (remaining : R → Option (List ℕ)) (l : Left R) (entries : List Entry) (last : End) : Type 0 where
+  pub read : List Entry
+  pub read_last : End
+  pub comes : Comes remaining l read read_last
+  pub are_moved : moved shift read read_last ≡ (entries, last)
 
 -- how they end: with no fault, or with this one after so many
 abbrev pub ending : List Entry → End → Option (ℕ × CapFault)

@@ -10,13 +10,13 @@ use Rattle.tc_reader.specs.declared.fault.TcFault.{TcFault}
 use Rattle.job.specs.RunEnd.{IsRunEnding}
 use Rattle.script.specs.Setup.{Setup}
 use Rattle.job.specs.declared.report.Ended.{Ended}
-use Rattle.replay.specs.Outcome.{Ends, ReadsAs, outcome_of}
+use Rattle.replay.specs.Outcome.{Ends, ReadsAs, timed_outcome}
 use Rattle.replay.specs.Outputs.{Got, Output, nothing}
 use Rattle.replay.specs.Texts.{replay_telling}
 use Rattle.job.specs.declared.fault.Fault.{Fault}
 use Rattle.job.specs.declared.fault.Fault.TheVariants as Faults
 use Rattle.replay.specs.declared.faults.ReplayInput.{ReplayInput}
-use Rattle.replay.specs.declared.stamps.Stamp.{Stamp}
+use Rattle.replay.specs.declared.timing.Timing.{Timing}
 
 -- what two writers got, and then what no write let out
 abbrev pub with_unwritten : Got → Output → Got
@@ -30,7 +30,7 @@ pub record AreLetOut (run : Result (Unit {0}) (Fault ReplayInput)) (got : Got) (
 
 -- The end of a replay: what the writers got, with what no write let out, is what definitions over the octets of both inputs say, or after a fault of a
 -- call's a prefix of each.
-abbrev pub IsReplayEnding : (s : Setup) (stamp : Stamp) (script capture : Option (List ℕ)) → Ended → (old got : Got) (errors_old errors_new : Option (List ℕ)) → Type 0
-IsReplayEnding s stamp script capture ended old got errors_old errors_new =
+abbrev pub IsReplayEnding : (s : Setup) (timing : Timing) (script capture : Option (List ℕ)) → Ended → (old got : Got) (errors_old errors_new : Option (List ℕ)) → Type 0
+IsReplayEnding s timing script capture ended old got errors_old errors_new =
     IsRunEnding replay_telling (λ run. AreLetOut run got (λ out. (read : List (List ℕ) → Result Command TcFault) → IsReader read → IfSome script (λ lines. IfSome capture (λ octets.
-    (records : Result (List Entry × End) CapFault) → ReadsAs octets records → Ends run old out (outcome_of read s stamp lines records))))) ended errors_old errors_new
+    (records : Result (List Entry × End) CapFault) → ReadsAs octets records → Ends run old out (timed_outcome read s timing lines records))))) ended errors_old errors_new

@@ -36,7 +36,3 @@ stamp_in word = if bytes_eq word (codes "start") then Some Stamps.Start else if 
 -- of the word that is given, if it is one; start where none is given
 abbrev pub stamp_given : Option (List ℕ) → Option Stamp
 stamp_given word = stamp_in (unwrap_or word (codes "start"))
-
--- the text of a word that is no stamp
-abbrev pub stamp_text : List ℕ
-stamp_text = codes "taprio_port: bad value of --stamp\n"

@@ -2,7 +2,7 @@
 use Rattle.std.specs.Prelude.{List, ℕ, [], ◌∷◌, decimal, codes}
 use Rattle.std.specs.List.{concat}
 use Rattle.capture.specs.declared.fault.CapFault.{CapFault}
-use Rattle.capture.specs.declared.fault.CapFault.TheVariants.{ShortHeader, BadMagic, BadVersion, BadLink, ShortRecord, LongRecord, BadFraction, TooManyRecords, Read, Write, Memory}
+use Rattle.capture.specs.declared.fault.CapFault.TheVariants.{ShortHeader, BadMagic, BadVersion, BadLink, ShortRecord, LongRecord, BadFraction, TooManyRecords, BadShift, Read, Write, Memory}
 use Rattle.job.specs.Report.{Telling}
 use Rattle.script.specs.Texts.{script_telling, value_text}
 use Rattle.script.specs.declared.settings.BadValue.TheVariants as Values
@@ -19,6 +19,7 @@ capture_fault_name ShortRecord = codes "ShortRecord"
 capture_fault_name LongRecord = codes "LongRecord"
 capture_fault_name BadFraction = codes "BadFraction"
 capture_fault_name TooManyRecords = codes "TooManyRecords"
+capture_fault_name BadShift = codes "BadShift"
 capture_fault_name Read = codes "Read"
 capture_fault_name Write = codes "Write"
 capture_fault_name Memory = codes "Memory"
@@ -41,6 +42,7 @@ capture_text number ShortRecord = record_text number ShortRecord
 capture_text number LongRecord = record_text number LongRecord
 capture_text number BadFraction = record_text number BadFraction
 capture_text number TooManyRecords = record_text number TooManyRecords
+capture_text number BadShift = record_text number BadShift
 capture_text number Read = codes "taprio_port: read failed\n"
 capture_text number Write = codes "taprio_port: write failed\n"
 capture_text number Memory = codes "taprio_port: out of memory\n"
@@ -65,6 +67,7 @@ capture_status ShortRecord = 3
 capture_status LongRecord = 3
 capture_status BadFraction = 3
 capture_status TooManyRecords = 3
+capture_status BadShift = 3
 capture_status Read = 4
 capture_status Write = 4
 capture_status Memory = 4

@@ -43,19 +43,22 @@ pub use Rattle.replay.specs.KeptScript.{AreKept, IsKept, IsKept-prop, kept_clock
 pub use Rattle.replay.specs.Lines.{IsEarly, begins_with_frame, line_in, line_request, line_said, reading_of, request_in}
 pub use Rattle.replay.specs.LinesLeft.{GivesLine, lines_left}
 pub use Rattle.replay.specs.Merge.{Came, Timed, all_requests, before_end, came_from, latest_clock, lines_after, lines_by, lines_past, merged, requests_of, timed_from, to_run_end}
-pub use Rattle.replay.specs.Outcome.{AppendsBoth, Ends, IsOpenFault, Outcome, ReadsAs, end_fault, end_of, ended_by, header, is_too_late, open_fault, outcome_of, refused, told_to_end}
+pub use Rattle.replay.specs.Outcome.{AppendsBoth, Ends, IsOpenFault, Outcome, ReadsAs, end_fault, end_of, ended_by, header, is_too_late, open_fault, outcome_of, refused, timed_outcome, told_to_end}
 pub use Rattle.replay.specs.Outputs.{Got, Origin, Output, PutsBoth, SentBoth, answer_record, got, joined, kept_in, nothing, output, response_record, start_record}
-pub use Rattle.replay.specs.RecordsLeft.{Comes, EndsSo, found}
+pub use Rattle.replay.specs.RecordsLeft.{Comes, ComesMoved, EndsSo, found}
 pub use Rattle.replay.specs.RecordsRun.{RunsRecords}
 pub use Rattle.replay.specs.RunEnd.{counted_to, last_end, rest_moment, run_end}
 pub use Rattle.replay.specs.RunState.{Answers, AnswersStarts, IsTogether, Keeps, State, first_kept, state}
 pub use Rattle.replay.specs.Separated.{IsSeparatedBy}
 pub use Rattle.replay.specs.Sources.{MergeLaw}
-pub use Rattle.replay.specs.Stamps.{gap_of, rounded_up, stamp_given, stamp_text, stamped, stamping_at}
+pub use Rattle.replay.specs.Shifts.{moved, moved_moment, moved_reading}
+pub use Rattle.replay.specs.Stamps.{gap_of, rounded_up, stamp_given, stamped, stamping_at}
 pub use Rattle.replay.specs.Texts.{capture_fault_name, capture_status, capture_text, header_text, open_text, record_text, replay_telling}
 pub use Rattle.replay.specs.declared.faults.ReplayInput.{ReplayInput}
 pub use Rattle.replay.specs.declared.faults.Stop.{Stop}
 pub use Rattle.replay.specs.declared.kept_script.KeptLine.{KeptLine}
 pub use Rattle.replay.specs.declared.kept_script.KeptLine.TheVariants.{Tc}
+pub use Rattle.replay.specs.declared.shifts.Shift.{Shift}
 pub use Rattle.replay.specs.declared.stamps.Stamp.{Stamp}
 pub use Rattle.replay.specs.declared.stamps.Stamping.{Stamping}
+pub use Rattle.replay.specs.declared.timing.Timing.{Timing}

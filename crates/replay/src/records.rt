@@ -5,7 +5,7 @@ ghost use Rattle.std.specs.Io.KnownBytes.{Keeps as Holds};
 ghost use Rattle.capture.specs.CaptureReader.{HasGiven, shown};
 ghost use Rattle.capture.specs.Records.{holds_record};
 ghost use Rattle.replay.specs.declared.faults.Stop.TheVariants as Stops;
-ghost use Rattle.replay.specs.Words.{Command, Next, left, entry, frame_of, End, Origin, CAPTURE_END, MAX_RECORDS, MAX_RECORD_OCTETS, kept, Asks, IsReader, TcFault, lines_left, kept_in, Comes, found, RunsRecords, Answers, IsTogether, Keeps, state};
+ghost use Rattle.replay.specs.Words.{Command, Next, left, entry, frame_of, End, Origin, CAPTURE_END, MAX_RECORDS, MAX_RECORD_OCTETS, kept, Asks, IsReader, TcFault, lines_left, kept_in, ComesMoved, found, RunsRecords, Answers, IsTogether, Keeps, state};
 ghost use Rattle.abstract_port.specs.declared.Event.TheVariants as Events;
 
 use crate::cursor::Cursor;
@@ -13,6 +13,7 @@ use crate::faults::Stop;
 use crate::kept_script::KeptScript;
 use crate::lines::run_lines;
 use crate::sender::{Sending, put_arrival, put_clock};
+use crate::shifts::{Shift, moved_moment};
 use capture::{CapFault, CaptureReader, Record, RecordHeader, frame_of};
 use octet_writer::PutLine;
 use script::Watch;
@@ -105,9 +106,10 @@ fn advance<C: Allocator, R: Read, W: Write, V: Write>(
     Ok(records.advance())
 }
 
-/// Runs the records that are to come, each after the lines up to its moment, and calls who watches for each; later
-/// lines are left. What was answered is let out before more of the capture is waited for. The number of the record at
-/// which the capture ends with a fault, and the fault.
+/// Runs the records that are to come, each with its moment moved by the shift, and after the lines up to that, and calls
+/// who watches for each; later lines are left. What was answered is let out before more of the capture is waited for.
+/// The number of the record at which the capture ends with a fault, and the fault: `BadShift` of one that can't be
+/// moved so.
 pub(crate) fn run_records<
     A: Allocator + Clone,
     B: Allocator,
@@ -121,6 +123,7 @@ pub(crate) fn run_records<
     script: &KeptScript<B>,
     cursor: &mut Cursor,
     records: &mut CaptureReader<R, C>,
+    shift: Option<Shift>,
     departures: &mut W,
     report: &mut V,
     watch: &mut P,
@@ -130,7 +133,7 @@ pub(crate) fn run_records<
     requires first { (left records.old).number ≡ 0 }
     ensures together { OnOk result (IsTogether (state sending.new (V.contents report.new) (W.contents departures.new))) }
     ensures records { (read : List (List ℕ) → Result Command TcFault) → IsReader read
-        → (origin : Origin) (last : End) → Comes R.remaining (left records.old) origin.entries last →
+        → (origin : Origin) (last : End) → ComesMoved shift R.remaining (left records.old) origin.entries last →
         RunsRecords origin last (lines_left read script.now cursor.old) (lines_left read script.now cursor.new) (state sending.old (V.contents report.old) (W.contents departures.old)) (state sending.new (V.contents report.new) (W.contents departures.new)) result }
 {
     let mut latest = 0u128;
@@ -142,7 +145,10 @@ pub(crate) fn run_records<
             Ok(Some(header)) => header,
         };
         let record = records.lend(header);
-        latest = latest.max(record.moment);
+        let Some(moment) = moved_moment(shift, record.moment) else {
+            return Ok(Some((number, CapFault::BadShift)));
+        };
+        latest = latest.max(moment);
         run_lines(sending, script, cursor, latest, departures, report, watch)?;
         take_record(sending, latest, number, &record, departures, report, watch)?;
         number += 1;

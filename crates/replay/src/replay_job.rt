@@ -7,8 +7,8 @@ ghost use Rattle.job.specs.declared.fault.Fault.TheVariants as Faults;
 ghost use Rattle.replay.specs.Words.{IsReplayEnding, got};
 
 use crate::faults::ReplayFault;
-use crate::replay_run::replay;
-use crate::stamps::Stamp;
+use crate::replay_run::replay_timed;
+use crate::timing::Timing;
 use job::{Ended, Errors, say_run};
 use octet_writer::BufWriter;
 use script::{Settings, Watch};
@@ -74,24 +74,24 @@ pub fn answer_replay<
 >(
     alloc: A,
     settings: Settings,
-    stamp: Stamp,
+    timing: Timing,
     inputs: Inputs<R, S>,
     mut outputs: Outputs<W, V, B, C>,
     errors: &mut E,
     watch: &mut P,
 ) -> (Ended, W, V)
-    ensures { IsReplayEnding settings stamp (R.remaining inputs.script) (S.remaining inputs.capture) result.0
+    ensures { IsReplayEnding settings timing (R.remaining inputs.script) (S.remaining inputs.capture) result.0
         (got (writer_contents W.contents outputs.report) (writer_contents V.contents outputs.departures)) (got (W.contents result.1) (V.contents result.2))
         (E.contents errors.old) (E.contents errors.new) }
 {
-    let run = replay(
+    let run = replay_timed(
         alloc,
         inputs.script,
         inputs.capture,
         &mut outputs.departures,
         &mut outputs.report,
         settings,
-        stamp,
+        timing,
         watch,
     );
     let run = let_out(run, &mut outputs.report, &mut outputs.departures);

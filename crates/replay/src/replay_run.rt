@@ -1,7 +1,7 @@
 //! Runs a script and a capture.
 
 ghost use Rattle.std.specs.Prelude.{◌≡◌, ◌≤◌, ℕ, [], List, None, Option, Result, IfOk, IfErr, IfSome, Err, false, true, length};
-ghost use Rattle.replay.specs.Words.{CAPTURE_END, run_end, new_port, IsSoundPort, Command, IsNewReader, left, Entry, CapFault, End, IsReader, TcFault, lines_left, new_store, kept_requests, merged, came_from, timed_from, requests_of, Ends, IsOpenFault, ended_by, ReadsAs, end_fault, header, is_too_late, open_fault, outcome_of, stamping_at, told_to_end, Origin, PutsBoth, got, Comes, IsTogether, Keeps, state};
+ghost use Rattle.replay.specs.Words.{CAPTURE_END, run_end, new_port, IsSoundPort, Command, IsNewReader, left, Entry, CapFault, End, IsReader, TcFault, lines_left, new_store, kept_requests, merged, came_from, timed_from, requests_of, Ends, IsOpenFault, ended_by, ReadsAs, end_fault, header, is_too_late, open_fault, outcome_of, stamping_at, timed_outcome, told_to_end, Origin, PutsBoth, got, ComesMoved, IsTogether, Keeps, state};
 ghost use Rattle.job.specs.declared.fault.Fault.TheVariants as Faults;
 ghost use Rattle.replay.specs.declared.faults.ReplayInput.TheVariants as Inputs;
 
@@ -14,7 +14,9 @@ use crate::queued::QueuedLine;
 use crate::records::run_records;
 use crate::script_reader::read_script;
 use crate::sender::{Leaving, Sending, put_clock};
+use crate::shifts::Shift;
 use crate::stamps::{Stamp, stamping_at};
+use crate::timing::Timing;
 use answer_text::NearNumbers;
 use capture::{CAPTURE_END, CapFault, CaptureReader, CaptureWriter};
 use octet_store::OctetStore;
@@ -115,6 +117,7 @@ fn run<A: Allocator + Clone, B: Allocator, C: Allocator, R: Read, W: PutLine, V:
     script: &KeptScript<B>,
     until: Option<u128>,
     records: &mut CaptureReader<R, C>,
+    shift: Option<Shift>,
     departures: &mut W,
     report: &mut V,
     watch: &mut P,
@@ -124,7 +127,7 @@ fn run<A: Allocator + Clone, B: Allocator, C: Allocator, R: Read, W: PutLine, V:
     requires begun { (left records.old).ended ≡ None }
     requires first { (left records.old).number ≡ 0 }
     ensures { (read : List (List ℕ) → Result Command TcFault) → IsReader read
-        → (origin : Origin) (last : End) → Comes R.remaining (left records.old) origin.entries last
+        → (origin : Origin) (last : End) → ComesMoved shift R.remaining (left records.old) origin.entries last
         → Keeps origin (state sending.old (V.contents report.old) (W.contents departures.old)) →
         Ends result (got (V.contents report.old) (W.contents departures.old)) (got (V.contents report.new) (W.contents departures.new))
         (record { output = told_to_end origin (merged (timed_from 0 (kept_requests read script.now.octets.items script.now.lines.items)) (came_from 0 0 origin.entries)) until sending.old.port.port sending.old.summary; fault = end_fault (length origin.entries) last }) }
@@ -135,6 +138,7 @@ fn run<A: Allocator + Clone, B: Allocator, C: Allocator, R: Read, W: PutLine, V:
         script,
         &mut cursor,
         records,
+        shift,
         departures,
         report,
         watch,
@@ -226,17 +230,55 @@ fn begin<A: Allocator + Clone, W: Write>(
 ///
 /// The memory of a summary is taken first. Then the script is read whole, and nothing is written where it has a fault;
 /// then the file header of the capture, and nothing is written where that has one. Then come its records, each taken
-/// when its turn comes, after the lines up to its moment, which is the greater of its own and that of the record
-/// before. After the last record, also one after which the capture ends with a fault, come the other lines. Then the
-/// port runs on, to the moment of the settings, or where they have none until no frame can start any more; how many
-/// frames each class still has comes last, and a summary where the settings want one. The records of the frames that
-/// start carry the moment that `stamp` says.
+/// when its turn comes, after the lines up to its moment, which is the greater of its own, moved as `timing` says, and
+/// that of the record before. A record that can't be moved so is one with a fault, `BadShift`. After the last record,
+/// also one after which the capture ends with a fault, come the other lines. Then the port runs on, to the moment of the
+/// settings, or where they have none until no frame can start any more; how many frames each class still has comes last,
+/// and a summary where the settings want one. The records of the frames that start carry the moment that `timing` says.
 ///
 /// What was answered is let out, the departures first, before more of the capture is waited for. A read or a write
 /// that fails, or takes nothing, isn't tried again. Nothing that is kept grows with the capture: of a script its lines
 /// are kept, and of a capture the octets of the frames that wait, and where a summary is wanted when they came. Who
 /// watches is called for each record once it is taken, for a malformed line of the script, and for each line that
 /// begins with `tc` and changes nothing.
+pub fn replay_timed<A: Allocator, R: Read + Drop, S: Read + Drop, W: PutLine, V: PutLine, P: Watch>(
+    alloc: A,
+    script: R,
+    capture: S,
+    departures: &mut W,
+    report: &mut V,
+    settings: Settings,
+    timing: Timing,
+    watch: &mut P,
+) -> Result<(), ReplayFault>
+    ensures replay { (read : List (List ℕ) → Result Command TcFault) → IsReader read → IfSome (R.remaining script) (λ lines. IfSome (S.remaining capture) (λ octets.
+        (records : Result (List Entry × End) CapFault) → ReadsAs octets records →
+        Ends result (got (V.contents report.old) (W.contents departures.old)) (got (V.contents report.new) (W.contents departures.new)) (timed_outcome read settings timing lines records))) }
+    ensures late { is_too_late settings.until ≡ true → (result ≡ Err (Faults.Input Inputs.Until)) × (departures.new ≡ departures.old) × (report.new ≡ report.old) }
+{
+    let until = settings.until();
+    if is_too_late(until) {
+        return Err(ReplayFault::Input(ReplayInput::Until));
+    }
+    let alloc = &alloc;
+    let summary = summary_wanted(&alloc, settings.summary(), settings.room())?;
+    let script = read_script(&alloc, script, watch)?;
+    let mut records = open_capture(alloc, capture)?;
+    let mut sending = begin(&alloc, settings, timing.stamp, summary, departures)?;
+    run(
+        &mut sending,
+        &script,
+        until,
+        &mut records,
+        timing.shift,
+        departures,
+        report,
+        watch,
+    )
+}
+
+/// Runs a script and a capture through a new port, by moment, as `replay_timed` does, with no moment moved. The records
+/// of the frames that start carry the moment that `stamp` says.
 pub fn replay<A: Allocator, R: Read + Drop, S: Read + Drop, W: PutLine, V: PutLine, P: Watch>(
     alloc: A,
     script: R,
@@ -252,22 +294,8 @@ pub fn replay<A: Allocator, R: Read + Drop, S: Read + Drop, W: PutLine, V: PutLi
         Ends result (got (V.contents report.old) (W.contents departures.old)) (got (V.contents report.new) (W.contents departures.new)) (outcome_of read settings stamp lines records))) }
     ensures late { is_too_late settings.until ≡ true → (result ≡ Err (Faults.Input Inputs.Until)) × (departures.new ≡ departures.old) × (report.new ≡ report.old) }
 {
-    let until = settings.until();
-    if is_too_late(until) {
-        return Err(ReplayFault::Input(ReplayInput::Until));
-    }
-    let alloc = &alloc;
-    let summary = summary_wanted(&alloc, settings.summary(), settings.room())?;
-    let script = read_script(&alloc, script, watch)?;
-    let mut records = open_capture(alloc, capture)?;
-    let mut sending = begin(&alloc, settings, stamp, summary, departures)?;
-    run(
-        &mut sending,
-        &script,
-        until,
-        &mut records,
-        departures,
-        report,
-        watch,
+    let timing = Timing { stamp, shift: None };
+    replay_timed(
+        alloc, script, capture, departures, report, settings, timing, watch,
     )
 }

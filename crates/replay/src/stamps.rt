@@ -2,13 +2,10 @@
 
 ghost use Rattle.std.specs.Prelude.{◌≡◌, ◌<◌, ◌-◌, min};
 ghost use Rattle.script.specs.Given.{octets_of};
-ghost use Rattle.replay.specs.Words.{CAPTURE_END, IsTold, rounded_up, stamp_given, stamp_text, stamped, stamping_at};
+ghost use Rattle.replay.specs.Words.{CAPTURE_END, rounded_up, stamp_given, stamped, stamping_at};
 
 use abstract_port::Start;
-use answer_text::put;
 use capture::CAPTURE_END;
-use job::Ended;
-use std::io::Write;
 use wire_time::Rate;
 
 /// Which moment of a frame on the wire the record of its departure carries.
@@ -64,7 +61,7 @@ pub(crate) fn stamped(stamping: Stamping, start: Start) -> u128
 }
 
 /// The stamp of a word, `start` or `end`, if it is one; `start` where none is given.
-pub fn stamp_given(word: Option<&str>) -> Option<Stamp>
+pub(crate) fn stamp_given(word: Option<&str>) -> Option<Stamp>
     ensures { result ≡ stamp_given (octets_of word.entry) }
 {
     let word = word.unwrap_or("start");
@@ -75,13 +72,4 @@ pub fn stamp_given(word: Option<&str>) -> Option<Stamp>
         return Some(Stamp::End);
     }
     None
-}
-
-/// Writes the text of a word that is no stamp. The exit status that goes with it is 2, also where that write fails.
-pub fn say_stamp<W: Write>(writer: &mut W) -> Ended
-    ensures status { result.status ≡ 2 }
-    ensures told { IsTold result.told (W.contents writer.old) (W.contents writer.new) stamp_text }
-{
-    let told = put(writer, b"taprio_port: bad value of --stamp\n").is_ok();
-    Ended { status: 2, told }
 }

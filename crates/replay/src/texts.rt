@@ -23,6 +23,7 @@ fn capture_fault_name(fault: CapFault) -> &'static [u8]
         CapFault::LongRecord => b"LongRecord",
         CapFault::BadFraction => b"BadFraction",
         CapFault::TooManyRecords => b"TooManyRecords",
+        CapFault::BadShift => b"BadShift",
         CapFault::Read => b"Read",
         CapFault::Write => b"Write",
         CapFault::Memory => b"Memory",
@@ -77,6 +78,7 @@ fn put_capture_fault<W: Write>(
         CapFault::LongRecord => put_record_fault(writer, number, CapFault::LongRecord),
         CapFault::BadFraction => put_record_fault(writer, number, CapFault::BadFraction),
         CapFault::TooManyRecords => put_record_fault(writer, number, CapFault::TooManyRecords),
+        CapFault::BadShift => put_record_fault(writer, number, CapFault::BadShift),
         CapFault::Read => put(writer, b"taprio_port: read failed\n"),
         CapFault::Write => put(writer, b"taprio_port: write failed\n"),
         CapFault::Memory => put(writer, b"taprio_port: out of memory\n"),
@@ -89,7 +91,7 @@ fn capture_status(fault: CapFault) -> u8
     match fault {
         CapFault::ShortHeader | CapFault::BadMagic | CapFault::BadVersion => 3,
         CapFault::BadLink | CapFault::ShortRecord | CapFault::LongRecord => 3,
-        CapFault::BadFraction | CapFault::TooManyRecords => 3,
+        CapFault::BadFraction | CapFault::TooManyRecords | CapFault::BadShift => 3,
         CapFault::Read | CapFault::Write | CapFault::Memory => 4,
     }
 }
@@ -106,6 +108,7 @@ fn capture_kind(fault: CapFault) -> FaultKind
         CapFault::LongRecord => FaultKind::Capture(CaptureKind::LongRecord),
         CapFault::BadFraction => FaultKind::Capture(CaptureKind::BadFraction),
         CapFault::TooManyRecords => FaultKind::Capture(CaptureKind::TooManyRecords),
+        CapFault::BadShift => FaultKind::Capture(CaptureKind::BadShift),
         CapFault::Read => FaultKind::ReadFailed,
         CapFault::Write => FaultKind::WriteFailed,
         CapFault::Memory => FaultKind::OutOfMemory,

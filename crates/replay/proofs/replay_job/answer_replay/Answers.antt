@@ -12,14 +12,14 @@ returns g c =
     let report = c.let_out-run.new.report in
     let departures = c.let_out-run.new.departures in
     let unwritten : Output = record { report = writer_buffer report; departures = writer_buffer departures } in
-    replay_ending c.args.settings c.args.stamp c.say_run-ended.result
+    replay_ending c.args.settings c.args.timing c.say_run-ended.result
     (got (writer_contents w c.args.outputs.report) (writer_contents v c.args.outputs.departures))
-    (got (writer_contents w c.replay-run.new.report) (writer_contents v c.replay-run.new.departures))
+    (got (writer_contents w c.replay_timed-run.new.report) (writer_contents v c.replay_timed-run.new.departures))
     (got (writer_contents w report) (writer_contents v departures))
     (got (w c.into_parts-report.result.0) (v c.into_parts-departures.result.0))
-    _ _ unwritten c.replay-run.result c.let_out-run.result
+    _ _ unwritten c.replay_timed-run.result c.let_out-run.result
     (g.R.Read.remaining c.args.inputs.script) (g.S.Read.remaining c.args.inputs.capture)
-    c.replay-run.ensures.replay c.let_out-run.ensures.kept (out_both c.let_out-run.result (writer_buffer report) (writer_buffer departures) c.let_out-run.ensures.out)
+    c.replay_timed-run.ensures.replay c.let_out-run.ensures.kept (out_both c.let_out-run.result (writer_buffer report) (writer_buffer departures) c.let_out-run.ensures.out)
     (c.let_out-run.ensures.report, c.let_out-run.ensures.departures)
     (both_same _ _ _ _ (ap (λ x. append_known (w x) (writer_buffer report)) (sym c.into_parts-report.ensures.inner))
     (ap (λ x. append_known (v x) (writer_buffer departures)) (sym c.into_parts-departures.ensures.inner)))

@@ -1,77 +1,13 @@
-use Rattle.std.proofs.Common.{◌≡◌, List, false, Err, Result, refl, sym, ap, ◌∙◌, subst}
-use Rattle.std.proofs.lemmas.Result.{err_from_is_err_and}
-use Rattle.replay.specs.Words.{script_of, left, Entry, CapFault, End, kept_requests, reading_of, Ends, Outcome, ReadsAs, is_too_late, outcome_of, got, state, watched, new_port}
-use Rattle.replay.proofs.EndLaws.{behind_header, header_exit}
-use Rattle.replay.proofs.ReplayLaws.{comes_new, header_refused, keeps_none, memory_wanting, opened, origin_of, outcome_all, outcome_good, script_refused, when_known}
+use Rattle.std.proofs.Common.{List, Result, subst}
+use Rattle.replay.specs.Words.{CapFault, End, Ends, Entry, got, outcome_of}
+use Rattle.replay.proofs.RecordLaws.{unmoved_reading}
+use Rattle.replay.proofs.ReplayLaws.{when_known}
 use Rattle.replay.proofs.replay_run.replay.Goals as goal
 
-pub returns-in_err-summary-clause-replay : goal.returns-in_err-summary-clause-replay
-returns-in_err-summary-clause-replay g c = λ read is. (
-    let r = c.from_residual.result in
-    let p = err_from_is_err_and r c.from_residual.ensures.1 in
-    let s = c.args.settings in
-    let old = got (g.V.Write.contents c.args.report.now) (g.W.Write.contents c.args.departures.now) in
-    when_known (g.R.Read.remaining c.args.script) _ (λ lines known. when_known (g.S.Read.remaining c.args.capture) _ (λ octets known'. λ records reads.
-    memory_wanting (Unit {0}) r old (outcome_of read s c.args.stamp lines records) (p.1 ∙ ap Err p.2))))
-
-pub returns-in_err-script-clause-replay : goal.returns-in_err-script-clause-replay
-returns-in_err-script-clause-replay g c = λ read is. (
-    let r = c.from_residual-in_err-script.result in
-    let p = err_from_is_err_and r c.from_residual-in_err-script.ensures.1 in
-    let s = c.args.settings in
-    let old = got (g.V.Write.contents c.args.report.now) (g.W.Write.contents c.args.departures.now) in
-    let late : is_too_late s.until ≡ false = sym (ap is_too_late c.until-until.ensures.value) ∙ sym c.is_too_late.ensures ∙ c.if-is_too_late.false in
-    when_known (g.R.Read.remaining c.args.script) _ (λ lines known. when_known (g.S.Read.remaining c.args.capture) _ (λ octets known'. λ records reads.
-    script_refused read s c.args.stamp lines records late (Unit {0}) c.in_err-script.field-0.0 r old (p.1 ∙ ap Err p.2) (rw known at c.in_err-script.ensures.script read is))))
-
-pub returns-in_err-records-clause-replay : goal.returns-in_err-records-clause-replay
-returns-in_err-records-clause-replay g c = λ read is. (
-    let r = c.from_residual-in_err-records.result in
-    let p = err_from_is_err_and r c.from_residual-in_err-records.ensures.1 in
-    let s = c.args.settings in
-    let old = got (g.V.Write.contents c.args.report.now) (g.W.Write.contents c.args.departures.now) in
-    let late : is_too_late s.until ≡ false = sym (ap is_too_late c.until-until.ensures.value) ∙ sym c.is_too_late.ensures ∙ c.if-is_too_late.false in
-    when_known (g.R.Read.remaining c.args.script) _ (λ lines known. when_known (g.S.Read.remaining c.args.capture) _ (λ octets known'. λ records reads.
-    let given = rw known at c.in_ok-script.ensures.script read is in
-    header_refused s c.args.stamp (reading_of read (script_of lines)).requests octets records reads (outcome_of read s c.args.stamp lines records) (outcome_good read s c.args.stamp lines records late given.0)
-    (Unit {0}) (g.S.Read.remaining c.args.capture) c.in_err-records.field-0.0 r old known' (p.1 ∙ ap Err p.2) c.in_err-records.ensures.fault)))
-
-pub returns-in_err-sending-clause-replay : goal.returns-in_err-sending-clause-replay
-returns-in_err-sending-clause-replay g c = λ read is. (
-    let r = c.from_residual-in_err-sending.result in
-    let p = err_from_is_err_and r c.from_residual-in_err-sending.ensures.1 in
-    let s = c.args.settings in
-    let report = g.V.Write.contents c.args.report.now in
-    let old = got report (g.W.Write.contents c.args.departures.now) in
-    let mid = got report (g.W.Write.contents c.begin.new.departures) in
-    let late : is_too_late s.until ≡ false = sym (ap is_too_late c.until-until.ensures.value) ∙ sym c.is_too_late.ensures ∙ c.if-is_too_late.false in
-    when_known (g.R.Read.remaining c.args.script) _ (λ lines known. when_known (g.S.Read.remaining c.args.capture) _ (λ octets known'. λ records reads.
-    let given = rw known at c.in_ok-script.ensures.script read is in
-    let found = opened g.S.Read.remaining (g.S.Read.remaining c.args.capture) (left c.in_ok-records.records) octets records c.in_ok-records.ensures.ok known' reads in
-    let all = outcome_all read s c.args.stamp lines records late given.0 found.0 found.1 found.2 (reading_of read (script_of lines)).requests s.until (new_port s.rate s.mtu s.room) (watched s.summary s.room) refl refl refl refl in
-    let P : Outcome → Type 0 = λ o. Ends r old mid o in
-    subst P all (header_exit {T = Unit {0}} r c.in_err-sending.field-0.0 old mid _ (p.1 ∙ ap Err p.2) (c.in_err-sending.ensures.out report)))))
-
 pub returns-clause-replay : goal.returns-clause-replay
-returns-clause-replay g c = λ read is. (
-    let r = c.run.result in
-    let s = c.args.settings in
-    let report = g.V.Write.contents c.args.report.now in
-    let old = got report (g.W.Write.contents c.args.departures.now) in
-    let mid = got report (g.W.Write.contents c.begin.new.departures) in
-    let new = got (g.V.Write.contents c.run.new.report) (g.W.Write.contents c.run.new.departures) in
-    let late : is_too_late s.until ≡ false = sym (ap is_too_late c.until-until.ensures.value) ∙ sym c.is_too_late.ensures ∙ c.if-is_too_late.false in
+returns-clause-replay g c = λ read is.
+    let old = got (g.V.Write.contents c.args.report.now) (g.W.Write.contents c.args.departures.now) in
+    let new = got (g.V.Write.contents c.replay_timed.new.report) (g.W.Write.contents c.replay_timed.new.departures) in
     when_known (g.R.Read.remaining c.args.script) _ (λ lines known. when_known (g.S.Read.remaining c.args.capture) _ (λ octets known'. λ records reads.
-    let given = rw known at c.in_ok-script.ensures.script read is in
-    let found = opened g.S.Read.remaining (g.S.Read.remaining c.args.capture) (left c.in_ok-records.records) octets records c.in_ok-records.ensures.ok known' reads in
-    let es = found.0 in
-    let last = found.1 in
-    let script = c.in_ok-script.script in
-    let sending = c.in_ok-sending.sending in
-    let seen = c.in_ok-summary.ensures ∙ (ap (λ wanted. watched wanted c.room.result) c.summary.ensures ∙ ap (λ room. watched s.summary room) c.room.ensures.value) in
-    let comes = comes_new g.S.Read.remaining (g.S.Read.remaining c.args.capture) (left c.in_ok-records.records) octets es last c.in_ok-records.ensures.ok known' (subst (λ (x : Result (List Entry × End) CapFault). ReadsAs octets x) found.2 reads) in
-    let origin = origin_of es c.args.stamp s.rate in
-    let keeps = keeps_none origin (state sending report (g.W.Write.contents c.begin.new.departures)) s.rate s.mtu s.room c.in_ok-sending.ensures.port c.in_ok-sending.ensures.store c.in_ok-sending.ensures.stamping in
-    let all = outcome_all read s c.args.stamp lines records late given.0 es last found.2 (kept_requests read script.octets.items script.lines.items) c.until-until.result sending.port.port sending.summary given.1 c.until-until.ensures.value c.in_ok-sending.ensures.port (c.in_ok-sending.ensures.seen ∙ seen) in
-    let P : Outcome → Type 0 = λ o. Ends r old new o in
-    subst P all (behind_header r old mid new _ (c.in_ok-sending.ensures.out report) (c.run.ensures read is origin last comes keeps)))))
+    let P : Result (List Entry × End) CapFault → Type 0 = λ rs. Ends c.replay_timed.result old new (outcome_of read c.args.settings c.args.stamp lines rs) in
+    subst P (unmoved_reading records) (rw (known, known') at c.replay_timed.ensures.replay read is records reads)))
