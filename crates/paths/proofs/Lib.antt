@@ -1,0 +1,5 @@
+mod EndLaws
+mod LineLaws
+mod PathLaws
+mod PortLaws
+mod WayLaws

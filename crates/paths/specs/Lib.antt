@@ -1,0 +1,10 @@
+pub mod Ports
+pub mod Ways
+pub mod Order
+pub mod PortLines
+pub mod PathLines
+pub mod NextLines
+pub mod Findings
+pub mod Faults
+pub mod Outcome
+pub mod PathsEnd
