@@ -1,0 +1,10 @@
+mod WindowLaws
+mod TakenLaws
+mod ApartLaws
+mod LinkedLaws
+mod AnsweredLaws
+mod EarlierLaws
+mod ToldLaws
+mod SoundLaws
+mod PathLaws
+mod EndLaws

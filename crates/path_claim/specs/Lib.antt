@@ -1,0 +1,10 @@
+pub mod Windows
+pub mod Told
+pub mod Apart
+pub mod Linked
+pub mod Answered
+pub mod Earlier
+pub mod Networks
+pub mod Sent
+pub mod PathClaim
+pub mod Ends
