@@ -1,5 +1,4 @@
-//! Tests of `delay_bounds`, by its public calls. The expected values are those of a model of the walk that shares no
-//! code with it.
+//! A test of `delay_bounds`, where memory is refused. What it answers is seen by rows of the program.
 #![tactic(auto)]
 
 #[cfg(test)]

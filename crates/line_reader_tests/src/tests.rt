@@ -90,29 +90,3 @@ fn a_limit_is_told_before_a_read_that_would_fail(rt: HostRuntime) -> Result<(), 
     assert_eq!(rt; reads.get(), 2);
     Ok(())
 }
-
-#[test]
-fn joined_lines_in_any_pieces(rt: HostRuntime) -> Result<(), Fail> {
-    for piece in 1..9 {
-        let reads = Cell::new(0);
-        let reader = Unsteady {
-            text: b"a\\\nb\\\r\nc\n\nd",
-            behind: b"",
-            piece,
-            fails_at: 99,
-            reads: &reads,
-        };
-        let mut lines = LineReader::new(rt.alloc(), reader)?;
-        assert!(rt; lines.advance() == Ok(true));
-        assert!(rt; lines.line() == b"a\\\nb\\\r\nc".as_slice());
-        assert_eq!(rt; lines.line_number(), 1);
-        assert!(rt; lines.advance() == Ok(true));
-        assert!(rt; lines.line() == b"".as_slice());
-        assert_eq!(rt; lines.line_number(), 4);
-        assert!(rt; lines.advance() == Ok(true));
-        assert!(rt; lines.line() == b"d".as_slice());
-        assert_eq!(rt; lines.line_number(), 5);
-        assert!(rt; lines.advance() == Ok(false));
-    }
-    Ok(())
-}

@@ -203,5 +203,6 @@ module _ {H : Type 0} (alerted : List Alert → H → H → Type 0) (know : H �
     strict_by Names.Replay w stays = tt
     strict_by Names.Streams w stays = tt
     strict_by Names.Bounds w stays = tt
+    strict_by Names.Paths w stays = tt
     strict_by Names.Plan w stays = tt
     strict_by Names.Draw w stays = tt

@@ -13,9 +13,10 @@ use Rattle.wire_time.specs.Moment.{greatest_moment}
 use Rattle.drawing.specs.Given.{DrawWords}
 use Rattle.drawing.specs.Options.{options_of}
 use Rattle.drawing.specs.declared.options.DrawOptions.{DrawOptions}
-use Rattle.replay.specs.Stamps.{stamp_given}
 use Rattle.replay.specs.Texts.{open_text}
-use Rattle.replay.specs.declared.stamps.Stamp.{Stamp}
+use Rattle.replay.specs.Timing.{timing_given}
+use Rattle.replay.specs.declared.timing.BadTiming.{BadTiming}
+use Rattle.replay.specs.declared.timing.Timing.{Timing}
 use Rattle.job.specs.RunEnd.{IsUnanswered}
 use Rattle.schedule_check.specs.CheckEnd.{checks_given}
 use Rattle.schedule_check.specs.declared.settings.CheckSettings.{CheckSettings}
@@ -26,6 +27,7 @@ use Rattle.job.specs.declared.report.Ended.{Ended}
 use Rattle.script.specs.declared.settings.BadValue.{BadValue}
 use Rattle.traffic.specs.StreamsEnd.{GivenWords as StreamsGiven, IsStreamsEnding, plan_given}
 use Rattle.traffic.specs.declared.plan.Plan.{Plan}
+use Rattle.paths.specs.PathsEnd.{IsPathsEnding}
 use Rattle.plan.specs.PlanEnd.{IsPlanEnding}
 use Rattle.stream_bounds.specs.BoundsEnd.{IsBoundsEnding, IsBoundsRefusal, bounds_given}
 use Rattle.stream_bounds.specs.declared.settings.BoundsSettings.{BoundsSettings}
@@ -60,9 +62,9 @@ draw_words_in found = record { from = first_value found (codes "from"); to = fir
 abbrev pub settings_in : ℕ → Found → Result Setup BadValue
 settings_in greatest found = settings_given greatest (words_in found)
 
--- which moment the records of a replay carry, by the value that is given to its option
-abbrev pub stamp_in : Found → Option Stamp
-stamp_in found = stamp_given (first_value found (codes "stamp"))
+-- what the time stamps of both captures of a replay say, by the values that are given to its options
+abbrev pub timing_in : Found → Result Timing BadTiming
+timing_in found = timing_given (first_value found (codes "stamp")) (first_value found (codes "shift"))
 
 -- the settings of the values that are given to the options of a check
 abbrev pub checks_in : Found → Result CheckSettings BadValue
@@ -112,6 +114,15 @@ IsGivenBounds settings None schedules ended old got errors_old errors_new = Unit
 IsGivenBounds (Ok settings) (Some path) schedules ended old got errors_old errors_new =
     ((table : Option (List ℕ)) × IsBoundsEnding settings table schedules ended old got errors_old errors_new) ⊎ IsUnanswered 4 (open_text path) ended old got errors_old errors_new
 IsGivenBounds (Err value) (Some path) schedules ended old got errors_old errors_new = IsBoundsRefusal value ended old got errors_old errors_new
+
+-- The end of a run on schedules and the network that the words name: that of the schedules and of some octets, since what a file gives is not known,
+-- or of the path that can't be opened; or of a value that is bad, which comes first. There is no end where the words name no network: they are
+-- refused then.
+abbrev pub IsGivenPaths : Result BoundsSettings BoundsValue → (next path schedules : Option (List ℕ)) → Ended → (old got errors_old errors_new : Option (List ℕ)) → Type 0
+IsGivenPaths settings next None schedules ended old got errors_old errors_new = Unit {0}
+IsGivenPaths (Ok settings) next (Some path) schedules ended old got errors_old errors_new =
+    ((network : Option (List ℕ)) × IsPathsEnding settings next network schedules ended old got errors_old errors_new) ⊎ IsUnanswered 4 (open_text path) ended old got errors_old errors_new
+IsGivenPaths (Err value) next (Some path) schedules ended old got errors_old errors_new = IsBoundsRefusal value ended old got errors_old errors_new
 
 -- The end of a plan for the table that the words name, by the settings of the port: that of some octets, since what a file gives is not known, or of the
 -- path that can't be opened; or of a value that is bad, which comes first: the first of the port's, where one is. There is no end where the words name no

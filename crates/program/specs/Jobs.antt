@@ -20,11 +20,12 @@ use Rattle.script.specs.declared.settings.BadValue.{BadValue}
 use Rattle.schedule_check.specs.Checked.{whole_check}
 use Rattle.schedule_check.specs.Windows.{IsTeller, Teller}
 use Rattle.drawing.specs.PictureEnd.{IsDrawEnding}
-use Rattle.replay.specs.Stamps.{stamp_text}
 use Rattle.replay.specs.Texts.{open_text}
+use Rattle.replay.specs.Timing.{timing_text}
 use Rattle.replay.specs.Words.{IsReplayEnding, got}
-use Rattle.replay.specs.declared.stamps.Stamp.{Stamp}
-use Rattle.program.specs.Given.{IsGivenBounds, IsGivenFrames, IsGivenPlan, IsGivenStreams, flag_in, bounds_in, draws_in, checks_in, is_strict, over_input_text, plan_in, settings_in, stamp_in}
+use Rattle.replay.specs.declared.timing.BadTiming.{BadTiming}
+use Rattle.replay.specs.declared.timing.Timing.{Timing}
+use Rattle.program.specs.Given.{IsGivenBounds, IsGivenFrames, IsGivenPaths, IsGivenPlan, IsGivenStreams, flag_in, bounds_in, draws_in, checks_in, is_strict, over_input_text, plan_in, settings_in, timing_in}
 use Rattle.program.specs.Strict.{IsStrictEnding}
 use Rattle.program.specs.Table.{name_of, program_app}
 use Rattle.program.specs.declared.job_name.JobName.{JobName}
@@ -36,37 +37,37 @@ memory_text = codes "taprio_port: out of memory\n"
 
 -- The end of a replay of what is open, with the capture that is read: that of some script, since what a file gives is not known, and of some output
 -- capture.
-pub record IsReplayed (settings : Setup) (stamp : Stamp) (capture : Option (List ℕ)) (ended : Ended) (old new errors_old errors_new : Option (List ℕ)) : Type 0 where
+pub record IsReplayed (settings : Setup) (timing : Timing) (capture : Option (List ℕ)) (ended : Ended) (old new errors_old errors_new : Option (List ℕ)) : Type 0 where
   pub script : Option (List ℕ)
   pub departures_old : Option (List ℕ)
   pub departures_new : Option (List ℕ)
-  pub ending : IsReplayEnding settings stamp script capture ended (got old departures_old) (got new departures_new) errors_old errors_new
+  pub ending : IsReplayEnding settings timing script capture ended (got old departures_old) (got new departures_new) errors_old errors_new
 
 -- The end of a replay of what is open: memory is out before anything is read; or that of the files, with the standard input as the capture where none
 -- is open.
-abbrev pub IsReplayedOrForgotten : Setup → Stamp → Option (Option (List ℕ)) → Option (List ℕ) → Ended → (old new errors_old errors_new : Option (List ℕ)) → Type 0
-IsReplayedOrForgotten settings stamp capture input ended old new errors_old errors_new =
-    IsUnanswered 4 memory_text ended old new errors_old errors_new ⊎ IsReplayed settings stamp (unwrap_or capture input) ended old new errors_old errors_new
+abbrev pub IsReplayedOrForgotten : Setup → Timing → Option (Option (List ℕ)) → Option (List ℕ) → Ended → (old new errors_old errors_new : Option (List ℕ)) → Type 0
+IsReplayedOrForgotten settings timing capture input ended old new errors_old errors_new =
+    IsUnanswered 4 memory_text ended old new errors_old errors_new ⊎ IsReplayed settings timing (unwrap_or capture input) ended old new errors_old errors_new
 
 -- the capture of a replay is the standard input where the words say so, and else some octets of a file
 abbrev pub IsCapture : Found → Option (List ℕ) → Option (List ℕ) → Type 0
 IsCapture found input capture = first_value found (codes "capture") ≡ Some (codes "-") → capture ≡ input
 
--- The end of a replay with these settings: a value is refused; or the word of a stamp; or a file can't be opened, or the output is an input, or memory is
+-- The end of a replay with these settings: a value is refused; or a word about time stamps; or a file can't be opened, or the output is an input, or memory is
 -- out, before anything is read; or that of the files.
-abbrev pub IsReplayBy : Result Setup BadValue → Option Stamp → Found → Option (List ℕ) → Ended → (old new errors_old errors_new : Option (List ℕ)) → Type 0
-IsReplayBy (Err value) stamp found input ended old new errors_old errors_new = IsRefusal value ended old new errors_old errors_new
-IsReplayBy (Ok settings) None found input ended old new errors_old errors_new = IsUnanswered 2 stamp_text ended old new errors_old errors_new
-IsReplayBy (Ok settings) (Some stamp) found input ended old new errors_old errors_new =
+abbrev pub IsReplayBy : Result Setup BadValue → Result Timing BadTiming → Found → Option (List ℕ) → Ended → (old new errors_old errors_new : Option (List ℕ)) → Type 0
+IsReplayBy (Err value) timing found input ended old new errors_old errors_new = IsRefusal value ended old new errors_old errors_new
+IsReplayBy (Ok settings) (Err bad) found input ended old new errors_old errors_new = IsUnanswered 2 (timing_text bad) ended old new errors_old errors_new
+IsReplayBy (Ok settings) (Ok timing) found input ended old new errors_old errors_new =
     ((path : List ℕ) × IsUnanswered 4 (open_text path) ended old new errors_old errors_new)
     ⊎ (((path : List ℕ) × IsUnanswered 2 (over_input_text path) ended old new errors_old errors_new)
     ⊎ (IsUnanswered 4 memory_text ended old new errors_old errors_new
-    ⊎ ((capture : Option (List ℕ)) × IsCapture found input capture × IsReplayed settings stamp capture ended old new errors_old errors_new)))
+    ⊎ ((capture : Option (List ℕ)) × IsCapture found input capture × IsReplayed settings timing capture ended old new errors_old errors_new)))
 
 -- The end of a replay by what the words give.
 abbrev pub IsGivenReplay : Found → Option (List ℕ) → Ended → (old new errors_old errors_new : Option (List ℕ)) → Type 0
 IsGivenReplay found input ended old new errors_old errors_new =
-    IsReplayBy (settings_in CAPTURE_END found) (stamp_in found) found input ended old new errors_old errors_new
+    IsReplayBy (settings_in CAPTURE_END found) (timing_in found) found input ended old new errors_old errors_new
 
 -- The end of a job by what the words give it, on what the standard input has.
 abbrev pub IsJobEnding : JobName → Found → Option (List ℕ) → Ended → (old new errors_old errors_new : Option (List ℕ)) → Type 0
@@ -79,6 +80,8 @@ IsJobEnding Names.Streams found input ended old new errors_old errors_new =
     IsGivenStreams (plan_in found) (first_value found (codes "with")) input ended old new errors_old errors_new
 IsJobEnding Names.Bounds found input ended old new errors_old errors_new =
     IsGivenBounds (bounds_in found) (first_value found (codes "table")) input ended old new errors_old errors_new
+IsJobEnding Names.Paths found input ended old new errors_old errors_new =
+    IsGivenPaths (bounds_in found) (first_value found (codes "next")) (first_value found (codes "network")) input ended old new errors_old errors_new
 IsJobEnding Names.Plan found input ended old new errors_old errors_new =
     IsGivenPlan (settings_in greatest_moment found) (flag_in (codes "explain") found) (first_value found (codes "table")) ended old new errors_old errors_new
 IsJobEnding Names.Draw found input ended old new errors_old errors_new =

@@ -18,6 +18,7 @@ name_of Names.Replay = codes "replay"
 name_of Names.Check = codes "check"
 name_of Names.Streams = codes "streams"
 name_of Names.Bounds = codes "bounds"
+name_of Names.Paths = codes "paths"
 name_of Names.Plan = codes "plan"
 name_of Names.Draw = codes "draw"
 name_of Names.Frames = codes "frames"
@@ -45,7 +46,7 @@ rules_of Names.Script =
     ∷ flag (codes "strict") ∷ flag (codes "strict-frames") ∷ flag (codes "explain") ∷ []
 rules_of Names.Replay =
     option (codes "rate") ∷ option (codes "mtu") ∷ option (codes "room") ∷ option (codes "until") ∷ option (codes "stamp")
-    ∷ flag (codes "summary") ∷ flag (codes "progress") ∷ flag (codes "strict") ∷ flag (codes "strict-frames") ∷ flag (codes "explain")
+    ∷ option (codes "shift") ∷ flag (codes "summary") ∷ flag (codes "progress") ∷ flag (codes "strict") ∷ flag (codes "strict-frames") ∷ flag (codes "explain")
     ∷ file (codes "script") ∷ file (codes "capture") ∷ file (codes "out") ∷ []
 rules_of Names.Check =
     option (codes "rate") ∷ option (codes "mtu") ∷ option (codes "map") ∷ flag (codes "shares") ∷ flag (codes "windows")
@@ -55,6 +56,9 @@ rules_of Names.Bounds =
     option (codes "rate") ∷ option (codes "mtu") ∷ option (codes "room") ∷ option (codes "map") ∷ option (codes "frames")
     ∷ option (codes "silent") ∷ flag (codes "leftovers") ∷ flag (codes "slack") ∷ flag (codes "why") ∷ flag (codes "strict")
     ∷ flag (codes "explain") ∷ file (codes "table") ∷ []
+rules_of Names.Paths =
+    option (codes "rate") ∷ option (codes "mtu") ∷ option (codes "room") ∷ option (codes "frames") ∷ option (codes "silent")
+    ∷ flag (codes "leftovers") ∷ option (codes "next") ∷ flag (codes "strict") ∷ flag (codes "explain") ∷ file (codes "network") ∷ []
 rules_of Names.Plan =
     option (codes "rate") ∷ option (codes "mtu") ∷ option (codes "room") ∷ option (codes "cycle") ∷ option (codes "entries")
     ∷ option (codes "least-interval") ∷ option (codes "device") ∷ option (codes "base-time") ∷ flag (codes "share")
@@ -74,7 +78,7 @@ job_shape job = record (new_shape (name_of job)) { rules = rules_of job }
 abbrev pub program_app : App
 program_app = record {
   top = record (new_shape (codes "taprio_port")) { is_leaf = false; has_version = true; subcommand_required = true };
-  subs = map job_shape (Names.Script ∷ Names.Replay ∷ Names.Check ∷ Names.Streams ∷ Names.Bounds ∷ Names.Plan ∷ Names.Draw ∷ Names.Frames ∷ []);
+  subs = map job_shape (Names.Script ∷ Names.Replay ∷ Names.Check ∷ Names.Streams ∷ Names.Bounds ∷ Names.Paths ∷ Names.Plan ∷ Names.Draw ∷ Names.Frames ∷ []);
 }
 
 -- ---- what the code's table says

@@ -14,7 +14,17 @@ use script::Watch;
 use std::alloc::{Allocator, Global};
 use std::io::{Read, Write};
 use std::rt::Files;
-use stream_bounds::{answer_bounds, bounds_given as settings_given, end_with_bounds_value};
+use stream_bounds::{
+    BoundsSettings, BoundsValue, answer_bounds, bounds_given as settings_given,
+    end_with_bounds_value,
+};
+
+/// The settings of the values that bounds are given, or the first value that is bad.
+pub(crate) fn bounds_settings(matches: &ArgMatches<'_>) -> Result<BoundsSettings, BoundsValue>
+    ensures { result ≡ bounds_in (found_of matches.now) }
+{
+    settings_given(bounds_of(matches))
+}
 
 /// Answers about the schedules that `reader` gives and the streams of the table whose file the words name, through
 /// `answers`, with the text of a fault on `errors`; and gives the writer of the answers back. The values are judged
@@ -31,7 +41,6 @@ pub fn bounds_given<F: Files, B: Allocator, R: Read, W: Write + Drop, E: Errors,
     ensures ending { IsGivenBounds (bounds_in (found_of matches.now)) (first_value (found_of matches.now) (codes "table")) (R.remaining reader.old) result.0 (writer_contents W.contents answers) (W.contents result.1) (E.contents errors.old) (E.contents errors.new) }
     ensures unread { IfErr (bounds_in (found_of matches.now)) (λ _. reader.new ≡ reader.old) }
 {
-    let words = bounds_of(matches);
     let Some(path) = matches.get_str("table") else {
         let ended = Ended {
             status: 2,
@@ -39,7 +48,7 @@ pub fn bounds_given<F: Files, B: Allocator, R: Read, W: Write + Drop, E: Errors,
         };
         return end_told(ended, answers);
     };
-    let settings = match settings_given(words) {
+    let settings = match bounds_settings(matches) {
         Ok(settings) => settings,
         Err(value) => return end_with_bounds_value(value, answers, errors),
     };

@@ -22,6 +22,7 @@ use crate::frames_call::frames_given;
 use crate::job_name::JobName;
 use crate::onlooker::{FaultText, Onlooker};
 use crate::options::{JOBS, checks_of, command, draws_of, is_given, looks_of, values_of};
+use crate::paths_call::paths_given;
 use crate::piped::Piped;
 use crate::plan_call::plan_for;
 use crate::progress::Progress;
@@ -173,6 +174,7 @@ fn answer_job<F: Files, B: Allocator, R: Read, W: Write + Drop, E: Errors, H: Wa
         JobName::Check => check_given(alloc, matches, reader, answers, errors, watch),
         JobName::Streams => streams_given(files, alloc, matches, reader, answers, errors, watch),
         JobName::Bounds => bounds_given(files, alloc, matches, reader, answers, errors, watch),
+        JobName::Paths => paths_given(files, alloc, matches, reader, answers, errors, watch),
         JobName::Plan => plan_for(files, alloc, matches, answers, errors, watch),
         JobName::Draw => draw_given(alloc, matches, reader, answers, errors, watch),
         JobName::Frames => frames_given(files, alloc, matches, reader, answers, errors, watch),

@@ -16,6 +16,8 @@ pub(crate) enum JobName {
     Streams,
     /// Reports how long frames can ever wait.
     Bounds,
+    /// Reports how long frames can ever take through several ports.
+    Paths,
     /// Finds a schedule for streams.
     Plan,
     /// Draws the run of a script.
@@ -35,6 +37,7 @@ impl JobName {
             JobName::Check => "check",
             JobName::Streams => "streams",
             JobName::Bounds => "bounds",
+            JobName::Paths => "paths",
             JobName::Plan => "plan",
             JobName::Draw => "draw",
             JobName::Frames => "frames",

@@ -211,7 +211,8 @@ impl<'a, 'b, C: Clock, P: Write + Drop, E: Write> Onlooker<'a, 'b, C, P, E> {
                     self.warn_of_no_command();
                 }
             }
-            JobName::Streams | JobName::Bounds | JobName::Plan | JobName::Draw => {}
+            JobName::Streams | JobName::Bounds | JobName::Paths => {}
+            JobName::Plan | JobName::Draw => {}
         }
     }
 

@@ -42,6 +42,13 @@ pub(crate) fn is_given(matches: &ArgMatches<'_>, name: &str) -> bool
     }
 }
 
+/// The value of an option, where it is given.
+pub(crate) fn value_of<'a>(matches: &ArgMatches<'a>, name: &str) -> Option<&'a str>
+    ensures { octets_of result ≡ first_value (found_of matches.now) name.now }
+{
+    matches.get_str(name)
+}
+
 /// The values that a subcommand is given.
 pub fn values_of<'a>(matches: &ArgMatches<'a>) -> Values<'a>
     ensures { words_of_values result ≡ words_in (found_of matches.now) }
@@ -223,6 +230,14 @@ const STAMP: Word = Word {
     name: "stamp",
     value: "POINT",
     help: "Which moment the records of OUT have: start, or end, when the last octet has been sent [default: start]",
+    without: None,
+};
+
+const SHIFT: Word = Word {
+    given: Given::Value,
+    name: "shift",
+    value: "TIME",
+    help: "Add this time to the moment of each record, such as 5us; one that is taken off has - in front: --shift=-37s",
     without: None,
 };
 
@@ -436,6 +451,27 @@ const TABLE: Word = Word {
     without: None,
 };
 
+const NETWORK: Word = Word {
+    given: Given::File,
+    name: "network",
+    value: "NETWORK",
+    help: "The file with the network: its ports, links and streams",
+    without: None,
+};
+
+const NEXT: Word = Word {
+    given: Given::Value,
+    name: "next",
+    value: "NAME",
+    help: "Write the table of the streams that come to this port, as bounds reads it, in place of the answers",
+    without: None,
+};
+
+const STRICT_PATHS: Word = Word {
+    help: "End with status 1 where a deadline is missed or unknown, frames are lost, or nothing is judged",
+    ..STRICT
+};
+
 const CYCLE: Word = Word {
     given: Given::Value,
     name: "cycle",
@@ -521,7 +557,7 @@ const WIDTH: Word = Word {
     without: None,
 };
 
-pub(crate) const JOBS: [Job; 8] = [
+pub(crate) const JOBS: [Job; 9] = [
     Job {
         name: JobName::Script,
         about: "Answers the lines of a script on standard input",
@@ -545,6 +581,7 @@ pub(crate) const JOBS: [Job; 8] = [
             ROOM,
             UNTIL_AFTER_BOTH,
             STAMP,
+            SHIFT,
             SUMMARY,
             PROGRESS,
             STRICT_COMMANDS,
@@ -580,6 +617,22 @@ pub(crate) const JOBS: [Job; 8] = [
         about: "Reports how long the frames of the streams in a table can ever wait, by the schedule commands on standard input",
         words: &[
             RATE, MTU, ROOM, MAP, FRAMES, SILENT, LEFTOVERS, SLACK, WHY, STRICT, EXPLAIN, TABLE,
+        ],
+    },
+    Job {
+        name: JobName::Paths,
+        about: "Reports how long the frames of a network's streams can ever take, by the schedule commands of its ports on standard input",
+        words: &[
+            RATE,
+            MTU,
+            ROOM,
+            FRAMES,
+            SILENT,
+            LEFTOVERS,
+            NEXT,
+            STRICT_PATHS,
+            EXPLAIN,
+            NETWORK,
         ],
     },
     Job {

@@ -1,16 +1,16 @@
 //! A script and a capture from files through the port.
 
-ghost use Rattle.std.specs.Prelude.{◌≡◌, IfErr, IfNone, IfOk, None, OnOk, Some, [], codes, option_map, unwrap_or};
+ghost use Rattle.std.specs.Prelude.{◌≡◌, IfErr, IfOk, None, OnOk, Some, [], codes, option_map, unwrap_or};
 ghost use Rattle.octet_writer.specs.Buffered.{writer_contents};
 ghost use Rattle.clap.specs.Matches.{first_value, found_of};
-ghost use Rattle.program.specs.Given.{over_input_text, settings_in, stamp_in};
+ghost use Rattle.program.specs.Given.{over_input_text, settings_in, timing_in};
 ghost use Rattle.program.specs.Jobs.{IsGivenReplay, IsReplayed, IsReplayedOrForgotten, memory_text};
 ghost use Rattle.capture.specs.declared.writer.TheConstants.{CAPTURE_END};
 ghost use Rattle.job.specs.RunEnd.{IsUnanswered};
 ghost use Rattle.job.specs.Texts.{IsTold};
 ghost use Rattle.script.specs.ScriptEnd.{IsRefusal};
-ghost use Rattle.replay.specs.Stamps.{stamp_text};
 ghost use Rattle.replay.specs.Texts.{open_text};
+ghost use Rattle.replay.specs.Timing.{timing_text};
 
 use crate::onlooker::FaultText;
 use crate::options::values_of;
@@ -22,7 +22,9 @@ use capture::CAPTURE_END;
 use clap::ArgMatches;
 use job::{Ended, Errors, FaultKind, ValueKind, end_told};
 use octet_writer::BufWriter;
-use replay::{Inputs, Outputs, Stamp, answer_replay, say_stamp, say_unopened, stamp_given};
+use replay::{
+    BadTiming, Inputs, Outputs, Timing, answer_replay, say_timing, say_unopened, timing_given,
+};
 use script::{Settings, Watch, end_with_value, settings_given};
 use std::alloc::{Allocator, Global};
 use std::fs;
@@ -192,15 +194,24 @@ fn end_over_input<B: Allocator, W: Write + Drop, E: Errors>(
     end_told(ended, answers)
 }
 
-/// Reports that the word of a stamp is none, and gives the writer of the answers back. Nothing is answered.
-fn end_unstamped<B: Allocator, W: Write + Drop, E: Errors>(
+/// Whose value is bad.
+fn kind_of(bad: BadTiming) -> ValueKind {
+    match bad {
+        BadTiming::Stamp => ValueKind::Stamp,
+        BadTiming::Shift => ValueKind::Shift,
+    }
+}
+
+/// Reports that a word about time stamps is bad, and gives the writer of the answers back. Nothing is answered.
+fn end_untimed<B: Allocator, W: Write + Drop, E: Errors>(
+    bad: BadTiming,
     answers: BufWriter<W, B>,
     errors: &mut E,
 ) -> (Ended, W)
-    ensures { IsUnanswered 2 stamp_text result.0 (writer_contents W.contents answers) (W.contents result.1) (E.contents errors.old) (E.contents errors.new) }
+    ensures { IsUnanswered 2 (timing_text bad) result.0 (writer_contents W.contents answers) (W.contents result.1) (E.contents errors.old) (E.contents errors.new) }
 {
-    let ended = say_stamp(errors);
-    errors.found(FaultKind::Value(ValueKind::Stamp));
+    let ended = say_timing(bad, errors);
+    errors.found(FaultKind::Value(kind_of(bad)));
     end_told(ended, answers)
 }
 
@@ -229,19 +240,19 @@ fn replay_files<
 >(
     alloc: Global,
     settings: Settings,
-    stamp: Stamp,
+    timing: Timing,
     inputs: Inputs<T, S>,
     report: BufWriter<W, B>,
     departures: BufWriter<V>,
     errors: &mut E,
     watch: &mut P,
 ) -> (Ended, W)
-    ensures { IsReplayed settings stamp (S.remaining inputs.capture) result.0
+    ensures { IsReplayed settings timing (S.remaining inputs.capture) result.0
         (writer_contents W.contents report) (W.contents result.1) (E.contents errors.old) (E.contents errors.new) }
 {
     let outputs = Outputs { report, departures };
     let (ended, writer, _out) = answer_replay(
-        alloc, settings, stamp, inputs, outputs, errors, watch,
+        alloc, settings, timing, inputs, outputs, errors, watch,
     );
     (ended, writer)
 }
@@ -257,14 +268,14 @@ fn replay_opened<
 >(
     alloc: Global,
     settings: Settings,
-    stamp: Stamp,
+    timing: Timing,
     opened: Opened<T>,
     reader: &mut R,
     answers: BufWriter<W, B>,
     errors: &mut E,
     watch: &mut P,
 ) -> (Ended, W)
-    ensures { IsReplayedOrForgotten settings stamp (option_map T.remaining opened.capture) (R.remaining reader.old) result.0
+    ensures { IsReplayedOrForgotten settings timing (option_map T.remaining opened.capture) (R.remaining reader.old) result.0
         (writer_contents W.contents answers) (W.contents result.1) (E.contents errors.old) (E.contents errors.new) }
 {
     let Opened {
@@ -279,7 +290,7 @@ fn replay_opened<
         Some(capture) => {
             let inputs = Inputs { script, capture };
             replay_files(
-                alloc, settings, stamp, inputs, answers, departures, errors, watch,
+                alloc, settings, timing, inputs, answers, departures, errors, watch,
             )
         }
         None => {
@@ -288,7 +299,7 @@ fn replay_opened<
                 capture: reader,
             };
             replay_files(
-                alloc, settings, stamp, inputs, answers, departures, errors, watch,
+                alloc, settings, timing, inputs, answers, departures, errors, watch,
             )
         }
     }
@@ -311,19 +322,20 @@ pub fn replay_given<F: Files, B: Allocator, R: Read, W: Write + Drop, E: Errors,
         IsRefusal value result.0 (writer_contents W.contents answers) (W.contents result.1) (E.contents errors.old) (E.contents errors.new)) }
     ensures unread { IfErr (settings_in CAPTURE_END (found_of matches.now)) (λ _. (reader.new ≡ reader.old) × (watch.new ≡ watch.old)) }
     ensures ending { IsGivenReplay (found_of matches.now) (R.remaining reader.old) result.0 (writer_contents W.contents answers) (W.contents result.1) (E.contents errors.old) (E.contents errors.new) }
-    ensures unstamped { OnOk (settings_in CAPTURE_END (found_of matches.now)) (IfNone (stamp_in (found_of matches.now)) (
-        IsUnanswered 2 stamp_text result.0 (writer_contents W.contents answers) (W.contents result.1) (E.contents errors.old) (E.contents errors.new))) }
+    ensures untimed { OnOk (settings_in CAPTURE_END (found_of matches.now)) (IfErr (timing_in (found_of matches.now)) (λ bad.
+        IsUnanswered 2 (timing_text bad) result.0 (writer_contents W.contents answers) (W.contents result.1) (E.contents errors.old) (E.contents errors.new))) }
 {
     let settings = match settings_given(values_of(matches), CAPTURE_END) {
         Ok(settings) => settings,
         Err(value) => return end_with_value(value, answers, errors),
     };
-    let Some(stamp) = stamp_given(matches.get_str("stamp")) else {
-        return end_unstamped(answers, errors);
+    let timing = match timing_given(matches.get_str("stamp"), matches.get_str("shift")) {
+        Ok(timing) => timing,
+        Err(bad) => return end_untimed(bad, answers, errors),
     };
     match open_all(files, matches) {
         Ok(opened) => replay_opened(
-            alloc, settings, stamp, opened, reader, answers, errors, watch,
+            alloc, settings, timing, opened, reader, answers, errors, watch,
         ),
         Err(Unopened::Path(path)) => end_unopened(path, answers, errors),
         Err(Unopened::Input(path)) => end_over_input(path, answers, errors),

@@ -1,10 +1,8 @@
-use Rattle.std.proofs.Common.{◌≡◌, Bool, List, ℕ, Option, Some, Result, Ok, Err, codes, inl, inr, refl, ap, ap₂, sym, ◌∙◌, subst}
+use Rattle.std.proofs.Common.{◌≡◌, Bool, List, ℕ, Option, Some, Result, Ok, Err, codes, inl, inr, refl, ap, sym, ◌∙◌, subst}
 use Rattle.std.specs.Prelude.{IfErr}
 use Rattle.octet_writer.specs.Buffered.{writer_contents}
 use Rattle.clap.specs.Matches.{first_value, found_of}
 use Rattle.program.specs.Given.{IsGivenBounds, bounds_in}
-use Rattle.script.specs.Given.{GivenWords}
-use Rattle.stream_bounds.specs.BoundsEnd.{Asked, bounds_given}
 use Rattle.stream_bounds.specs.declared.settings.BoundsSettings.{BoundsSettings}
 use Rattle.stream_bounds.specs.declared.settings.BoundsValue.{BoundsValue}
 use Rattle.program.proofs.bounds_call.bounds_given.Goals as goal
@@ -14,17 +12,6 @@ unread : {T E X : Type 0} (r : Result T E) (x : X) → IfErr r (λ _. x ≡ x)
 unread (Ok y) x = tt
 unread (Err e) x = refl
 
--- the settings of the same values are the same
-same : (w v : GivenWords) (m n f h q r : Option (List ℕ)) (s t k l y z o p : Bool) → w ≡ v → m ≡ n → f ≡ h → q ≡ r → s ≡ t → k ≡ l → y ≡ z → o ≡ p
-    → bounds_given w m f q (record { strict = s; slack = k; why = y; leftovers = o })
-    ≡ bounds_given v n h r (record { strict = t; slack = l; why = z; leftovers = p })
-same w v m n f h q r s t k l y z o p words maps frames silents stricts slacks whys leftovers =
-    let asked : Asked = record { strict = s; slack = k; why = y; leftovers = o } in
-    ap₂ (λ (words : GivenWords) (map : Option (List ℕ)). bounds_given words map f q asked) words maps
-    ∙ (ap₂ (λ (frames silent : Option (List ℕ)). bounds_given v n frames silent asked) frames silents
-    ∙ (ap₂ (λ (strict slack : Bool). bounds_given v n h r (record { strict = strict; slack = slack; why = y; leftovers = o })) stricts slacks
-    ∙ ap₂ (λ (why left : Bool). bounds_given v n h r (record { strict = t; slack = l; why = why; leftovers = left })) whys leftovers))
-
 pub returns-in_default-clause-unread : goal.returns-in_default-clause-unread
 returns-in_default-clause-unread g c = unread (bounds_in (found_of c.args.matches.now)) c.args.reader.now
 
@@ -32,7 +19,7 @@ pub returns-in-Err-clause-ending : goal.returns-in-Err-clause-ending
 returns-in-Err-clause-ending g c =
     let out = c.end_with_bounds_value in
     let ends : Result BoundsSettings BoundsValue → Option (List ℕ) → Type 0 = λ settings path. IsGivenBounds settings path (g.R.Read.remaining c.args.reader.now) out.result.0 (writer_contents g.W.Write.contents c.args.answers) (g.W.Write.contents out.result.1) (g.E.Write.contents c.args.errors.now) (g.E.Write.contents out.new.errors) in
-    let said : c.bounds_given.result ≡ bounds_in (found_of c.args.matches.now) = c.bounds_given.ensures ∙ same _ _ _ _ _ _ _ _ _ _ _ _ _ _ _ _ c.bounds_of-words.ensures.port c.bounds_of-words.ensures.map c.bounds_of-words.ensures.frames c.bounds_of-words.ensures.silent c.bounds_of-words.ensures.strict c.bounds_of-words.ensures.slack c.bounds_of-words.ensures.why c.bounds_of-words.ensures.leftovers in
+    let said : c.bounds_settings.result ≡ bounds_in (found_of c.args.matches.now) = c.bounds_settings.ensures in
     subst (λ (settings : Result BoundsSettings BoundsValue). ends settings (first_value (found_of c.args.matches.now) (codes "table"))) (sym c.in-Err.is ∙ said)
     (subst (ends (Err c.in-Err.value)) c.in-Some.ensures out.ensures)
 
@@ -40,7 +27,7 @@ pub returns-in-Ok-open-clause-ending : goal.returns-in-Ok-open-clause-ending
 returns-in-Ok-open-clause-ending g c =
     let out = c.answer_bounds in
     let ends : Result BoundsSettings BoundsValue → Option (List ℕ) → Type 0 = λ settings path. IsGivenBounds settings path (g.R.Read.remaining c.args.reader.now) out.result.0 (writer_contents g.W.Write.contents c.args.answers) (g.W.Write.contents out.result.1) (g.E.Write.contents c.args.errors.now) (g.E.Write.contents out.new.errors) in
-    let said : c.bounds_given.result ≡ bounds_in (found_of c.args.matches.now) = c.bounds_given.ensures ∙ same _ _ _ _ _ _ _ _ _ _ _ _ _ _ _ _ c.bounds_of-words.ensures.port c.bounds_of-words.ensures.map c.bounds_of-words.ensures.frames c.bounds_of-words.ensures.silent c.bounds_of-words.ensures.strict c.bounds_of-words.ensures.slack c.bounds_of-words.ensures.why c.bounds_of-words.ensures.leftovers in
+    let said : c.bounds_settings.result ≡ bounds_in (found_of c.args.matches.now) = c.bounds_settings.ensures in
     subst (λ (settings : Result BoundsSettings BoundsValue). ends settings (first_value (found_of c.args.matches.now) (codes "table"))) (sym c.in-Ok.is ∙ said)
     (subst (ends (Ok c.in-Ok.settings)) c.in-Some.ensures (inl (g.F.File.Read.remaining c.in-Ok-open.table, out.ensures)))
 
@@ -48,6 +35,6 @@ pub returns-in-Err-open-clause-ending : goal.returns-in-Err-open-clause-ending
 returns-in-Err-open-clause-ending g c =
     let out = c.end_unopened in
     let ends : Result BoundsSettings BoundsValue → Option (List ℕ) → Type 0 = λ settings path. IsGivenBounds settings path (g.R.Read.remaining c.args.reader.now) out.result.0 (writer_contents g.W.Write.contents c.args.answers) (g.W.Write.contents out.result.1) (g.E.Write.contents c.args.errors.now) (g.E.Write.contents out.new.errors) in
-    let said : c.bounds_given.result ≡ bounds_in (found_of c.args.matches.now) = c.bounds_given.ensures ∙ same _ _ _ _ _ _ _ _ _ _ _ _ _ _ _ _ c.bounds_of-words.ensures.port c.bounds_of-words.ensures.map c.bounds_of-words.ensures.frames c.bounds_of-words.ensures.silent c.bounds_of-words.ensures.strict c.bounds_of-words.ensures.slack c.bounds_of-words.ensures.why c.bounds_of-words.ensures.leftovers in
+    let said : c.bounds_settings.result ≡ bounds_in (found_of c.args.matches.now) = c.bounds_settings.ensures in
     subst (λ (settings : Result BoundsSettings BoundsValue). ends settings (first_value (found_of c.args.matches.now) (codes "table"))) (sym c.in-Ok.is ∙ said)
     (subst (ends (Ok c.in-Ok.settings)) (ap Some c.in-Err-open.ensures ∙ c.in-Some.ensures) (inr out.ensures))
