@@ -14,10 +14,15 @@ WORDS = "bindings/web/faults.js"
 # The parts of docs/errors.md that have these faults.
 PARTS = ["A line is malformed", "A strict run finds something", "A capture is malformed", "An option has a bad value", "Files and memory"]
 # What the page never meets: it opens no files, has no strict runs, and lacks these options or gives them values of its own.
-UNMET = {"OUT is one of the inputs", "cannot open", "read failed", "write failed", "bounds", "bounds: no schedule was judged",
-         "bounds: no stream is in the table"} | {f"bad value of --{name}" for name in ("map", "frame", "stamp", "width")}
+UNMET = {"BadShift", "OUT is one of the inputs", "cannot open", "read failed", "write failed", "bounds", "bounds: no schedule was judged",
+         "bounds: no stream is in the table", "BadName", "SecondPort", "SecondLink", "SecondClocks", "PortTwice", "NoLink", "NoWay", "tc-fault",
+         "Deletion", "UnknownPort", "Uncrossed", "SecondSchedule"} | {
+    f"bad value of --{name}"
+    for name in ("map", "frame", "stamp", "shift", "width", "cycle", "entries", "least-interval", "device", "base-time", "next")}
 # What a strict run finds, and is no fault: it ends no run.
-FINDINGS = {"frame", "class"}
+FINDINGS = {"frame", "class", "paths", "paths: stream", "paths: no schedule was judged", "paths: no stream is in the network"}
+# A limit whose text says all.
+LIMITS = {"paths: there are more than 65536 ports"}
 # What needs no further words there.
 PLAIN = {"out of memory"}
 
@@ -42,7 +47,7 @@ def documented():
         body = re.search(rf"^## {part}\n(.*?)(?=^## |\Z)", text, re.MULTILINE | re.DOTALL)
         assert body, f"{PAGE}: it has no part {part}"
         found |= {name for heading in re.findall(r"^### (.*)", body[1], re.MULTILINE) for name in re.findall(r"`([^`]+)`", heading)}
-    return found - FINDINGS
+    return found - FINDINGS - LIMITS
 
 
 def on_the_page():
@@ -91,6 +96,24 @@ def bounds(table, schedules, *words):
     return ["bounds", *words, "table"], schedules, {"table": table}
 
 
+NETWORK = b"port a room 8\nlink a b 1us\nclocks 1us\nstream 1 7 60 1ms 0us 1 via a b\n"
+
+
+def paths(network, schedules=b""):
+    """The paths of this network under these schedules."""
+    return ["paths", "network"], schedules, {"network": network}
+
+
+def plan(*words):
+    """A plan with these words, for one stream."""
+    return ["plan", *words, "table"], b"", {"table": STREAM}
+
+
+def command(port):
+    """A schedule of a port."""
+    return COMMAND.replace(b"eth0", port)
+
+
 # By the case, a run that ends so, and in which words it is helped; None where nothing is.
 HELPED = {
     "LineKind::LongLine": ((["script"], b"#" * 65537, {}), "a line has at most 65536 octets"),
@@ -102,6 +125,19 @@ HELPED = {
     "LineKind::BadNumber": ((["script"], b"count 8\n", {}), "CLASS is a whole number"),
     "LineKind::ClockTooLate": ((["script"], b"clock 9223372036854775807001\n", {}), "the greatest moment is"),
     "LineKind::StreamTooLate": ((["streams"], b"stream 1 0 60 9223372036s 0s 2000\n", {}), "the last frame comes at OFFSET and COUNT - 1 times PERIOD"),
+    "LineKind::UnknownNetworkLine": (paths(b"ports a\n"), "a line of a network begins with port, link, clocks or stream"),
+    "LineKind::BadName": (paths(b"port a/b\n"), "a port's name is 1 to 15 octets"),
+    "LineKind::SecondPort": (paths(NETWORK + b"port a rate 100\n"), "one port line says all"),
+    "LineKind::SecondLink": (paths(NETWORK + b"link a b 2us\n"), "one link line leads from a port to another"),
+    "LineKind::SecondClocks": (paths(NETWORK + b"clocks 2us\n"), "one clocks line says"),
+    "LineKind::PortTwice": (paths(b"stream 1 7 60 1ms 0us 1 via a a\n"), "behind via stand the ports"),
+    "LineKind::NoLink": (paths(b"stream 1 7 60 1ms 0us 1 via a b\n"), "each step of a way needs its line"),
+    "LineKind::NoWay": (paths(NETWORK + b"stream 2 7 60 1ms 0us 1\n"), "with several ports each stream says its way"),
+    "LineKind::NoCommand": (paths(NETWORK, b"tc qdisc replace\n"), "a schedule is one line"),
+    "LineKind::Deletion": (paths(NETWORK, b"tc qdisc del dev a root\n"), "a port without a schedule has no line here"),
+    "LineKind::UnknownPort": (paths(NETWORK, command(b"c")), "the word behind dev is a port of the network"),
+    "LineKind::Uncrossed": (paths(NETWORK + b"port c\n", command(b"c")), "nothing would be judged"),
+    "LineKind::SecondSchedule": (paths(NETWORK, command(b"a") + command(b"a")), "each port has one schedule"),
     "CaptureKind::ShortHeader": (replay(HEADER[:23]), "a capture begins with a header of 24 octets"),
     "CaptureKind::BadMagic": (replay(header(magic=1)), "this is no classic pcap file"),
     "CaptureKind::BadVersion": (replay(header(minor=3)), "the version of a classic pcap file is 2.4"),
@@ -110,6 +146,7 @@ HELPED = {
     "CaptureKind::LongRecord": (replay(header() + record(octets=262145)), "a record has at most 262144 octets"),
     "CaptureKind::BadFraction": (replay(header() + record(fraction=1000000)), "the fraction of a time stamp is below a second"),
     "CaptureKind::TooManyRecords": (replay(HEADER + bytes(16 * 4000001)), "a capture has at most 4000000 records"),
+    "CaptureKind::BadShift": (replay(HEADER + record(), "--shift=-1"), "with --shift each record comes at moment 0 or later"),
     "ValueKind::Rate": ((["script", "--rate", "1G"], b"", {}), "--rate is 10, 100"),
     "ValueKind::Mtu": ((["draw", "--mtu", "64"], b"", {}), "--mtu is a whole number"),
     "ValueKind::Room": ((["frames", "--room", "0"], b"", {}), "--room is a whole number"),
@@ -119,10 +156,17 @@ HELPED = {
     "ValueKind::Silent": (bounds(STREAM, b"", "--silent", "6,8"), "--silent is classes from 0 to 7"),
     "ValueKind::Until": (replay(HEADER, "--until", "4294967297s"), "--until is picoseconds"),
     "ValueKind::Stamp": (replay(HEADER, "--stamp", "last"), "--stamp is start or end"),
+    "ValueKind::Shift": (replay(HEADER, "--shift", "1min"), "--shift is picoseconds, or a number with its unit such as 37s"),
     "ValueKind::Seed": ((["streams", "--seed", "x"], b"", {}), "--seed is a whole number from 0"),
     "ValueKind::From": ((["streams", "--from", "1min"], b"", {}), "--from is picoseconds"),
     "ValueKind::To": ((["draw", "--from", "1", "--to", "1"], b"", {}), "--to is picoseconds"),
     "ValueKind::Width": ((["draw", "--width", "399"], b"", {}), "--width is a whole number of pixels"),
+    "ValueKind::Cycle": (plan("--cycle", "1.5ns"), "--cycle is a time of whole nanoseconds"),
+    "ValueKind::Entries": (plan("--entries", "257"), "--entries is a whole number from 1 to 256"),
+    "ValueKind::LeastInterval": (plan("--least-interval", "10"), "--least-interval is a time of whole nanoseconds"),
+    "ValueKind::Device": (plan("--device", "a/b"), "--device is the name of a network device"),
+    "ValueKind::BaseTime": (plan("--base-time", "1us"), "--base-time is a whole number of nanoseconds"),
+    "ValueKind::Next": ((["paths", "--next", "c", "network"], b"", {"network": NETWORK}), "--next is the name of a port of the network"),
     "FaultKind::Found": (bounds(STREAM, b"tc qdisc replace\n", "--strict"), None),
     "FaultKind::NoSchedule": (bounds(STREAM, b"", "--strict"), "a schedule of standard input that a new port accepts is judged"),
     "FaultKind::NoStream": (bounds(b"", COMMAND, "--strict"), "the file has no line such as: stream"),

@@ -190,6 +190,23 @@ def case_a_file_as_the_standard_input_of_a_replay(program):
     assert ran.files["out"] == FIRST_LEFT
 
 
+def case_two_ports_in_a_row_that_a_pipe_joins(program):
+    """The second has a frame when its last octet was sent by the first, and the time of the link is over."""
+    with tempfile.TemporaryDirectory(prefix="taprio-case-") as folder:
+        for name, octets in (("script", b""), ("capture", TWO_RECORDS)):
+            with open(os.path.join(folder, name), "wb") as file:
+                file.write(octets)
+        os.mkfifo(os.path.join(folder, "link"))
+        first = [program, "replay", "--stamp", "end", "script", "capture", "link"]
+        second = [program, "replay", "--shift", "2us", "script", "link", "out"]
+        with subprocess.Popen(first, cwd=folder, stdout=subprocess.DEVNULL, stderr=subprocess.PIPE) as ahead:
+            ran = subprocess.run(second, cwd=folder, capture_output=True, timeout=60, check=False)
+            _, errors = ahead.communicate(timeout=60)
+    assert (ahead.returncode, errors, ran.returncode, ran.stderr) == (0, b"", 0, b""), (errors, ran)
+    assert ran.stdout == (b"queued 0 class 5\nstart 0 class 5 at 2000502576000 end 2000503248000\n"
+                          b"queued 1 class 3\nstart 1 class 3 at 2000503248000 end 2000503920000\n"), ran
+
+
 def case_a_replay_that_says_how_far_it_has_come(program):
     """A line comes with a record, where half a second has passed since the start or since the line before; it has how many records a second."""
     record = TWO_RECORDS[24:58]
