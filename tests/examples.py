@@ -25,6 +25,9 @@ def rows():
     for schedule in ("drive", "drive_short"):
         yield Row(f"examples/{schedule}.schedule", ["bounds", "drive.streams"], input=octets(f"{schedule}.schedule"),
                   files={"drive.streams": octets("drive.streams")}, output=octets(f"{schedule}.bounds"))
+    for network in ("line", "vehicle"):
+        yield Row(f"examples/{network}.network", ["paths", "--strict", "network"], input=octets(f"{network}.schedules"),
+                  files={"network": octets(f"{network}.network")}, output=octets(f"{network}.paths"))
     for words, more in [([], b""), (["--summary"], octets("machine.summary"))]:
         yield Row(f"examples/machine.pcap {' '.join(words)}", ["replay", *words, "--until", "2000000000", "script", "capture", "out"],
                   files={"script": octets("machine.script"), "capture": octets("machine.pcap")},
