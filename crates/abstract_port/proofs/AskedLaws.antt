@@ -5,7 +5,7 @@ use Rattle.std.proofs.lemmas.List.{map-append}
 use Rattle.std.proofs.lemmas.Option.{slice_get_read}
 use Rattle.std.specs.Prelude.{IfNone, IfSome, OnErr, Result, Ok, Err, is_some}
 use Rattle.wire_time.specs.Moment.{greatest_moment}
-use Rattle.list_config.specs.History.{Accepted, kept}
+use Rattle.gates.specs.History.{Accepted, kept}
 use Rattle.abstract_port.specs.declared.Start.{Start}
 use Rattle.abstract_port.specs.declared.Event.{Event}
 use Rattle.abstract_port.specs.declared.Event.TheVariants.{Arrive, Install, Clock, Query, Count}
@@ -16,7 +16,7 @@ use Rattle.abstract_port.specs.Answers.{answers_to, answers_of, port_after, IsBe
 use Rattle.abstract_port.proofs.Started.{HasStarted}
 use Rattle.abstract_port.specs.Sound.{IsSoundPort}
 use Rattle.abstract_port.proofs.StartsLaws.{with_history, Alike, starts_until-none, next_start-history, next_start-onward, next_start-rate, next_start-alike, next_alike}
-use Rattle.list_config.proofs.ChoiceLaws.{first_choice-kept}
+use Rattle.gates.proofs.ChoiceLaws.{first_choice-kept}
 use Rattle.abstract_port.proofs.ClockLaws.{goes_on}
 use Rattle.abstract_port.proofs.RunLaws.{IsTimely, timely-later, timely-after, settled-current, forgets, clock_on, clock_begun, HasRun}
 use Rattle.abstract_port.specs.Asked.{answers_left, with_answer, IsOneStart, Gives, AreFirst, IsPartly, IsStopped, StopsAt}

@@ -19,7 +19,7 @@ use Rattle.abstract_port.specs.AbstractPort.{AbstractPort, counts_at, class_for,
 use Rattle.abstract_port.specs.Answers.{answers_to, port_after}
 use Rattle.abstract_port.specs.FrameCounts.{add_capped, count_sent, count_dropped, no_counts}
 use Rattle.abstract_port.specs.Tally.{Happening, Arrived, Started, Counter, Accepted, Sent, SentOctets, Runts, TooLongs, OverSdus, Fulls, value_of, by_accepted, by_start, by_drop, only_in, growth, started, first_of_class, departures, happened, happenings, CountingLaw}
-use Rattle.gate_list.specs.Visits.{greatest_count}
+use Rattle.gates.specs.Visits.{greatest_count}
 use Rattle.abstract_port.proofs.TurnLaws as turn
 use Rattle.abstract_port.proofs.RunLaws.{clock_by}
 use Rattle.abstract_port.proofs.StartsLaws.{starts_until-some, starts_until-none, waiting-next_start}

@@ -3,9 +3,9 @@ use Rattle.std.proofs.Common.{◌≡◌, ◌<◌, ◌≤◌, ℕ, zero, suc, ◌
 use Rattle.std.specs.Prelude.{slice_set}
 use Rattle.wire_time.specs.declared.Frame.{Frame}
 use Rattle.wire_time.specs.Wire.{occupancy_of}
-use Rattle.list_config.specs.History.{open_through}
-use Rattle.list_config.specs.Choice.{may_start}
-use Rattle.list_config.proofs.ChoiceLaws.{greatest_below-passes}
+use Rattle.gates.specs.History.{open_through}
+use Rattle.gates.specs.Choice.{may_start}
+use Rattle.gates.proofs.ChoiceLaws.{greatest_below-passes}
 use Rattle.abstract_port.specs.declared.Start.{Start}
 use Rattle.abstract_port.specs.FrameCounts.{count_sent}
 use Rattle.abstract_port.specs.AbstractPort.{AbstractPort, queue_of, counts_at, head_need, is_available, choice, start_head, start_or, scan, next_start}

@@ -1,6 +1,6 @@
 -- The laws of the abstract port, each the promise of a function of its name.
 use Rattle.std.specs.Prelude.{◌≡◌, ◌≤◌, ℕ, ◌+◌, ◌-◌, true, List, [], ◌∷◌, Some, None}
-use Rattle.list_config.specs.History.{Accepted, open_through}
+use Rattle.gates.specs.History.{Accepted, open_through}
 use Rattle.abstract_port.specs.declared.Start.{Start}
 use Rattle.abstract_port.specs.declared.Event.{Event}
 use Rattle.abstract_port.specs.declared.Answer.{Answer}

@@ -3,8 +3,8 @@ use Rattle.std.specs.Prelude.{◌≡◌, ◌≤◌, ℕ, ◌+◌, All, length}
 use Rattle.wire_time.specs.declared.TheConstants.{MIN_MTU, MAX_MTU, MIN_PS_PER_OCTET}
 use Rattle.wire_time.specs.Wire.{occupancy_of, lead_of}
 use Rattle.wire_time.specs.declared.Frame.{Frame}
-use Rattle.list_config.specs.Current.{IsCurrent}
-use Rattle.class_queue.specs.Queue.{IsRoom}
+use Rattle.gates.specs.Current.{IsCurrent}
+use Rattle.abstract_port.specs.Queue.{IsRoom}
 use Rattle.abstract_port.specs.FrameCounts.{AreCounted}
 use Rattle.abstract_port.specs.AbstractPort.{AbstractPort, queue_of}
 

@@ -13,7 +13,7 @@ use Rattle.abstract_port.specs.declared.Answer.TheVariants as Answered
 use Rattle.abstract_port.specs.AbstractPort.{AbstractPort, queue_of, counts_at, class_for, verdict, waiting, next_start}
 use Rattle.abstract_port.specs.Answers.{arrival_answer, answers_to, answers_of, port_after}
 use Rattle.abstract_port.specs.FrameCounts.{add_capped}
-use Rattle.gate_list.specs.Visits.{greatest_count}
+use Rattle.gates.specs.Visits.{greatest_count}
 
 -- 1. What happens
 

@@ -1,8 +1,8 @@
 -- Shared slots come earlier from an earlier moment on, where the blocking falls by no more than time goes on.
 use Rattle.std.proofs.Common.{◌≡◌, ◌<◌, ◌≤◌, ℕ, zero, suc, ◌+◌, ◌-◌, Bool, true, false, not, ◌&&◌, ◌⊎◌, inl, inr, refl, sym, ap, ◌∙◌, subst, arith, le_refl}
 use Rattle.std.proofs.lemmas.Bool.{and_parts, both_ways, cases_Bool, cases_lt, false≢true}
-use Rattle.gate_list.specs.Gate.{Plan}
-use Rattle.gate_list.proofs.OpenLaws.{open_split, open_within}
+use Rattle.gates.specs.Gate.{Plan}
+use Rattle.gates.proofs.OpenLaws.{open_split, open_within}
 use Rattle.delay_bounds.specs.Walk.{may_by}
 use Rattle.any_traffic.specs.BlockedWindows.{IsGradual}
 use Rattle.any_traffic.specs.SharedSlots.{IsFirstShared, IsNextShared, IsNextWindow, IsSharedSlot, is_opening}

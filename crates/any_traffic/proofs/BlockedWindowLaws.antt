@@ -8,7 +8,7 @@ use Rattle.abstract_port.specs.declared.Start.{Start}
 use Rattle.abstract_port.specs.AbstractPort.{AbstractPort, new_port, queue_of}
 use Rattle.abstract_port.specs.Answers.{answers_of, port_after}
 use Rattle.abstract_port.specs.Laws.{starts_in}
-use Rattle.separation.specs.Traffic.{Came, queued_in, starts_of_class}
+use Rattle.abstract_port.specs.Traffic.{Came, queued_in, starts_of_class}
 use Rattle.delay_bounds.specs.Walk.{may_by}
 use Rattle.any_traffic.specs.ArrivalCurve.{ConformTo}
 use Rattle.any_traffic.specs.ArrivalWindows.{StartsWithin}

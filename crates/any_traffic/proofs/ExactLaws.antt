@@ -3,8 +3,8 @@ use Rattle.std.proofs.Common.{◌≡◌, ◌<◌, ◌≤◌, ℕ, zero, suc, ◌
 use Rattle.std.proofs.lemmas.Bool.{cases_lt}
 use Rattle.std.proofs.lemmas.List.Sums.{sum_by-cons}
 use Rattle.std.proofs.lemmas.Option.{same_Some}
-use Rattle.gate_list.specs.Gate.{Plan, in_ps}
-use Rattle.separation.specs.Served.{IsFirst}
+use Rattle.gates.specs.Gate.{Plan, in_ps}
+use Rattle.abstract_port.specs.Served.{IsFirst}
 use Rattle.delay_bounds.specs.Bounds.{Track, told_by}
 use Rattle.delay_bounds.specs.Claim.{IsFrame, earliest, flow_at, offsets_of}
 use Rattle.delay_bounds.specs.Waits.{AreAllTold}

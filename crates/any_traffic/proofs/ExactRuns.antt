@@ -4,7 +4,7 @@ use Rattle.std.proofs.lemmas.Bool.{cases_eq}
 use Rattle.std.proofs.lemmas.Option.{get_or_from_slice_get, same_Some}
 use Rattle.wire_time.specs.Wire.{occupancy_of}
 use Rattle.abstract_port.specs.AbstractPort.{new_port}
-use Rattle.separation.specs.Traffic.{Came, offered_in}
+use Rattle.abstract_port.specs.Traffic.{Came, offered_in}
 use Rattle.delay_bounds.specs.Claim.{AreComing, coming, flow_at, offsets_of}
 use Rattle.delay_bounds.specs.declared.Flow.{Flow}
 use Rattle.delay_bounds.proofs.StepLaws.{first_of}

@@ -2,7 +2,7 @@
 use Rattle.std.proofs.Common.{◌≡◌, ◌≤◌, ℕ, zero, suc, inl, inr, List, [], ◌∷◌, slice_get, Some, refl, sym, ap, ◌∙◌, subst, arith}
 use Rattle.std.proofs.lemmas.Option.{same_Some}
 use Rattle.wire_time.specs.Wire.{occupancy_of}
-use Rattle.separation.specs.Traffic.{Came}
+use Rattle.abstract_port.specs.Traffic.{Came}
 use Rattle.any_traffic.specs.PeriodicWindows.{ComeByFlows, PeriodicFlow, window_of}
 use Rattle.any_traffic.specs.ArrivalWindows.{IsIn}
 use Rattle.any_traffic.proofs.ListLaws.{none_here}

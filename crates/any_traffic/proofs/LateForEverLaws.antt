@@ -2,7 +2,7 @@
 use Rattle.std.proofs.Common.{◌≡◌, ◌<◌, ◌≤◌, ℕ, zero, suc, ◌+◌, ◌-◌, ◌*◌, max, Bool, inl, inr, List, [], ◌∷◌, refl, sym, ap, ◌∙◌, subst, arith, mul-add, mul-suc}
 use Rattle.std.proofs.lemmas.Bool.{cases_lt}
 use Rattle.std.proofs.lemmas.List.Sums.{sum_by-cons}
-use Rattle.separation.specs.Served.{IsFirst}
+use Rattle.abstract_port.specs.Served.{IsFirst}
 use Rattle.delay_bounds.proofs.WaitLaws.{one_first}
 use Rattle.delay_bounds.specs.ForEver.{Repeats}
 use Rattle.any_traffic.specs.LateForEver.{AreLateWithin, AreWhole, LateEnoughLaw, LateForEverLaw, LateRecurs}

@@ -3,18 +3,18 @@ use Rattle.std.proofs.Common.{◌≡◌, ◌<◌, ◌≤◌, ℕ, ◌+◌, ◌-�
 use Rattle.std.proofs.lemmas.Bool.{both_ways, cases_lt}
 use Rattle.std.proofs.lemmas.Option.{same_Some}
 use Rattle.wire_time.specs.Wire.{occupancy_of}
-use Rattle.gate_list.proofs.OpenLaws.{open_within}
-use Rattle.list_config.specs.History.{gates, open_through}
+use Rattle.gates.proofs.OpenLaws.{open_within}
+use Rattle.gates.specs.History.{gates, open_through}
 use Rattle.abstract_port.specs.declared.Event.{Event}
 use Rattle.abstract_port.specs.declared.Start.{Start}
 use Rattle.abstract_port.specs.AbstractPort.{AbstractPort, new_port}
 use Rattle.abstract_port.specs.Answers.{answers_of, answers_to, port_after}
 use Rattle.abstract_port.specs.Laws.{starts_in}
-use Rattle.separation.specs.Hindsight.{IsOpenBy}
-use Rattle.separation.specs.Separation.{IsKeptApart}
-use Rattle.separation.specs.Served.{start_at}
-use Rattle.separation.specs.Traffic.{Came, queued_in}
-use Rattle.separation.proofs.RunLaws.{keeping}
+use Rattle.abstract_port.specs.Hindsight.{IsOpenBy}
+use Rattle.abstract_port.specs.Separation.{IsKeptApart}
+use Rattle.abstract_port.specs.Served.{start_at}
+use Rattle.abstract_port.specs.Traffic.{Came, queued_in}
+use Rattle.abstract_port.proofs.SeparateRunLaws.{keeping}
 use Rattle.delay_bounds.proofs.GateLaws.{same_gates}
 use Rattle.delay_bounds.specs.Walk.{may_by}
 use Rattle.any_traffic.specs.Runs.{AreScheduled}

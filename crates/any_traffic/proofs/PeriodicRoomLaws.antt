@@ -3,13 +3,13 @@ use Rattle.std.proofs.Common.{◌≡◌, ◌<◌, ◌≤◌, ℕ, zero, suc, ◌
 use Rattle.std.proofs.lemmas.Bool.{cases_lt}
 use Rattle.wire_time.specs.Wire.{occupancy_of}
 use Rattle.wire_time.specs.declared.Frame.{Frame}
-use Rattle.gate_list.specs.Gate.{Plan}
-use Rattle.list_config.specs.History.{Accepted, open_through}
+use Rattle.gates.specs.Gate.{Plan}
+use Rattle.gates.specs.History.{Accepted, open_through}
 use Rattle.abstract_port.specs.declared.Start.{Start}
 use Rattle.abstract_port.specs.AbstractPort.{AbstractPort, new_port}
-use Rattle.separation.specs.Served.{AreServed}
-use Rattle.separation.specs.Traffic.{Came, offered_in, queued_in}
-use Rattle.separation.proofs.ServiceLaws.{new_holds, served_law}
+use Rattle.abstract_port.specs.Served.{AreServed}
+use Rattle.abstract_port.specs.Traffic.{Came, offered_in, queued_in}
+use Rattle.abstract_port.proofs.ServiceLaws.{new_holds, served_law}
 use Rattle.delay_bounds.specs.Walk.{may_by}
 use Rattle.any_traffic.specs.PeriodicRoom.{AreFewLate, HaveStarted, IsLateFrame, LateStartsRecur, PeriodicRoomLaw, RoomEnoughLaw}
 use Rattle.any_traffic.specs.PeriodicWindows.{ArePeriodic, ComeByFlows, PeriodicFlow, must_before}

@@ -6,10 +6,10 @@ use Rattle.std.proofs.lemmas.Bool.{cases_lt}
 use Rattle.std.proofs.lemmas.List.Sums.{sum_by-cons}
 use Rattle.std.proofs.lemmas.Option.{get_or_from_slice_get, same_Some, slice_get_within}
 use Rattle.wire_time.specs.Wire.{occupancy_of}
-use Rattle.gate_list.specs.Gate.{Plan}
+use Rattle.gates.specs.Gate.{Plan}
 use Rattle.abstract_port.specs.AbstractPort.{AbstractPort, new_port}
-use Rattle.separation.specs.Served.{IsFirst}
-use Rattle.separation.specs.Traffic.{Came, queued_in}
+use Rattle.abstract_port.specs.Served.{IsFirst}
+use Rattle.abstract_port.specs.Traffic.{Came, queued_in}
 use Rattle.delay_bounds.specs.Walk.{may_by}
 use Rattle.any_traffic.specs.ArrivalWindows.{IsIn}
 use Rattle.any_traffic.specs.Runs.{end_of_run, started}

@@ -3,12 +3,12 @@ use Rattle.std.proofs.Common.{◌≡◌, ◌≤◌, ℕ, zero, suc, ◌+◌, ◌
 use Rattle.std.proofs.lemmas.Option.{same_Some}
 use Rattle.wire_time.specs.Wire.{occupancy_of}
 use Rattle.wire_time.specs.declared.Frame.{Frame}
-use Rattle.list_config.specs.History.{open_through}
+use Rattle.gates.specs.History.{open_through}
 use Rattle.abstract_port.specs.declared.Start.{Start}
 use Rattle.abstract_port.specs.AbstractPort.{AbstractPort, new_port}
-use Rattle.separation.specs.Served.{AreServed, IsFirst, IsStart}
-use Rattle.separation.specs.Traffic.{Came, offered_in, queued_in}
-use Rattle.separation.proofs.ServiceLaws.{new_holds, served_law}
+use Rattle.abstract_port.specs.Served.{AreServed, IsFirst, IsStart}
+use Rattle.abstract_port.specs.Traffic.{Came, offered_in, queued_in}
+use Rattle.abstract_port.proofs.ServiceLaws.{new_holds, served_law}
 use Rattle.delay_bounds.proofs.GateLaws.{same_gates}
 use Rattle.any_traffic.specs.Reached.{IsKeptBusy, ReachedLaw}
 use Rattle.any_traffic.specs.Slots.{IsSlot}

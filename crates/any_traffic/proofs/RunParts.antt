@@ -1,7 +1,7 @@
 -- Beginnings of a run: what comes behind them, and what holds of them.
 use Rattle.std.proofs.Common.{◌≡◌, ◌≤◌, ℕ, ◌+◌, ◌-◌, true, Bool, Some, slice_get, subst, List, [], ◌∷◌, ◌++◌, length, refl, sym, ap, ◌∙◌, arith, append_assoc}
 use Rattle.wire_time.specs.declared.Frame.{Frame}
-use Rattle.list_config.specs.History.{Accepted, open_through}
+use Rattle.gates.specs.History.{Accepted, open_through}
 use Rattle.abstract_port.specs.declared.Event.{Event}
 use Rattle.abstract_port.specs.declared.Start.{Start}
 use Rattle.abstract_port.specs.AbstractPort.{AbstractPort, new_port}
@@ -9,9 +9,9 @@ use Rattle.abstract_port.specs.Answers.{answers_of, answers_to, port_after}
 use Rattle.abstract_port.specs.Laws.{starts_in}
 use Rattle.abstract_port.proofs.RunLaws.{answers_of-append}
 use Rattle.abstract_port.proofs.RunTurns.{starts_in-append}
-use Rattle.separation.specs.Traffic.{Came, IsOnly, offered_by, offered_in, queued_by, queued_in}
-use Rattle.separation.specs.Hindsight.{IsOpenBy}
-use Rattle.separation.proofs.RunLaws.{keeping}
+use Rattle.abstract_port.specs.Traffic.{Came, IsOnly, offered_by, offered_in, queued_by, queued_in}
+use Rattle.abstract_port.specs.Hindsight.{IsOpenBy}
+use Rattle.abstract_port.proofs.SeparateRunLaws.{keeping}
 use Rattle.delay_bounds.proofs.QueueLaws.{room_kept}
 use Rattle.any_traffic.specs.Runs.{AreScheduled}
 use Rattle.any_traffic.proofs.PartLaws.{count_frames}

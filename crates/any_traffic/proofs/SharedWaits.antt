@@ -7,11 +7,11 @@ use Rattle.std.proofs.lemmas.Option.{same_Some, slice_get_within}
 use Rattle.wire_time.specs.Wire.{occupancy_of}
 use Rattle.wire_time.proofs.WireLaws.{occupancy_pos}
 use Rattle.wire_time.specs.declared.Frame.{Frame}
-use Rattle.gate_list.specs.Gate.{Plan}
-use Rattle.gate_list.proofs.OpenLaws.{open_within}
-use Rattle.list_config.specs.History.{Accepted, gates, open_through}
+use Rattle.gates.specs.Gate.{Plan}
+use Rattle.gates.proofs.OpenLaws.{open_within}
+use Rattle.gates.specs.History.{Accepted, gates, open_through}
 use Rattle.abstract_port.specs.declared.Start.{Start}
-use Rattle.separation.specs.Traffic.{Came, starts_of_class}
+use Rattle.abstract_port.specs.Traffic.{Came, starts_of_class}
 use Rattle.delay_bounds.specs.Walk.{may_by}
 use Rattle.any_traffic.specs.ArrivalCurve.{ConformTo}
 use Rattle.any_traffic.specs.SharedBounds.{AreFew, IsSharedBusyPeriod, IsSoon, slots_above}

@@ -7,7 +7,7 @@ use Rattle.std.proofs.lemmas.Option.{same_Some}
 use Rattle.wire_time.specs.Wire.{occupancy_of}
 use Rattle.abstract_port.specs.declared.Start.{Start}
 use Rattle.abstract_port.specs.AbstractPort.{AbstractPort, new_port}
-use Rattle.separation.specs.Traffic.{Came, offered_in, queued_in}
+use Rattle.abstract_port.specs.Traffic.{Came, offered_in, queued_in}
 use Rattle.any_traffic.specs.Runs.{started}
 use Rattle.any_traffic.specs.SharedRuns.{AtMostWait}
 use Rattle.any_traffic.specs.SharedSlots.{slots_by, slots_of}

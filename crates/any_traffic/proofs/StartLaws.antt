@@ -5,13 +5,13 @@ use Rattle.std.proofs.lemmas.Bool.{cases_lt, eqb-true, eq-eqb, leb-true, ltb-tru
 use Rattle.std.proofs.lemmas.List.Sums.{sum_by-cons}
 use Rattle.std.proofs.lemmas.Option.{same_Some}
 use Rattle.wire_time.specs.declared.Frame.{Frame}
-use Rattle.list_config.specs.History.{Accepted}
+use Rattle.gates.specs.History.{Accepted}
 use Rattle.abstract_port.specs.declared.Answer.{Answer}
 use Rattle.abstract_port.specs.declared.Answer.TheVariants as Answered
 use Rattle.abstract_port.specs.declared.Start.{Start}
 use Rattle.abstract_port.specs.Laws.{AreApart, starts_in}
-use Rattle.separation.specs.Served.{start_at}
-use Rattle.separation.specs.Traffic.{Came, starts_of_class}
+use Rattle.abstract_port.specs.Served.{start_at}
+use Rattle.abstract_port.specs.Traffic.{Came, starts_of_class}
 use Rattle.any_traffic.proofs.Counting.{one_if}
 use Rattle.any_traffic.proofs.ListLaws.{none_here, one_before}
 use Rattle.any_traffic.proofs.PartLaws.{come_by}

@@ -5,7 +5,7 @@ use Rattle.std.proofs.Math.Nat.{le-div_iff_mul-le}
 use Rattle.std.proofs.lemmas.Bool.{cases_lt}
 use Rattle.std.proofs.lemmas.List.Sums.{sum_by-cons}
 use Rattle.abstract_port.specs.AbstractPort.{new_port}
-use Rattle.separation.specs.Traffic.{Came, offered_in}
+use Rattle.abstract_port.specs.Traffic.{Came, offered_in}
 use Rattle.any_traffic.specs.PeriodicWindows.{PeriodicFlow, before}
 use Rattle.any_traffic.specs.Sporadic.{curve_of, curve_of_all}
 use Rattle.any_traffic.specs.WindowCurve.{WindowCurveLaw, without_offset}

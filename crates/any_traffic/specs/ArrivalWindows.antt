@@ -1,12 +1,12 @@
 -- Arrival windows: frames that each come within a time of their own, as those of synchronised talkers with jitter do.
 use Rattle.std.specs.Prelude.{◌≡◌, ◌<◌, ◌≤◌, ℕ, ◌+◌, max, min, Bool, if◌then◌else◌, nat_le, List, [], ◌∷◌, Some, length, slice_get}
 use Rattle.wire_time.specs.Wire.{occupancy_of}
-use Rattle.gate_list.specs.Gate.{Plan}
-use Rattle.list_config.specs.History.{Accepted}
+use Rattle.gates.specs.Gate.{Plan}
+use Rattle.gates.specs.History.{Accepted}
 use Rattle.abstract_port.specs.declared.Start.{Start}
 use Rattle.abstract_port.specs.declared.Event.{Event}
-use Rattle.separation.specs.Served.{IsFirst}
-use Rattle.separation.specs.Traffic.{Came}
+use Rattle.abstract_port.specs.Served.{IsFirst}
+use Rattle.abstract_port.specs.Traffic.{Came}
 use Rattle.delay_bounds.specs.Walk.{may_by}
 use Rattle.any_traffic.specs.Runs.{IsApartRun, end_of_run, queued, started}
 

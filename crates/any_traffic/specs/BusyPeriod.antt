@@ -3,7 +3,7 @@
 -- A plan repeats, so that the moments of one cycle are all. From one of them on frames need be followed only while the wire is busy with
 -- them: once the last that may have come has ended before a further one can come, all is as from then on.
 use Rattle.std.specs.Prelude.{◌<◌, ◌≤◌, ℕ, ◌+◌, ◌-◌, List}
-use Rattle.gate_list.specs.Gate.{Plan, in_ps}
+use Rattle.gates.specs.Gate.{Plan, in_ps}
 use Rattle.delay_bounds.specs.Walk.{may_by}
 use Rattle.any_traffic.specs.AnyTraffic.{AreCurveBounds}
 use Rattle.any_traffic.specs.Slots.{IsSlot}

@@ -1,7 +1,7 @@
 -- Exact traffic is the special case of windows with no jitter, and frames of one length: the late run is then the exact walk of
 -- `delay_bounds`.
 use Rattle.std.specs.Prelude.{◌≡◌, ◌<◌, ◌≤◌, ℕ, ◌+◌, List, map, Some, slice_get}
-use Rattle.gate_list.specs.Gate.{Plan}
+use Rattle.gates.specs.Gate.{Plan}
 use Rattle.abstract_port.specs.declared.Event.{Event}
 use Rattle.delay_bounds.specs.Bounds.{told_by}
 use Rattle.delay_bounds.specs.Claim.{IsFrame, IsRun}

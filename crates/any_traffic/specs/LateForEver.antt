@@ -3,12 +3,12 @@
 -- From when all flows have begun, and the jitter of each has passed, their windows repeat after any time that is whole periods of each.
 -- Where the gates repeat after it, too, and the wire is then taken for as long as it was, so does the late run.
 use Rattle.std.specs.Prelude.{◌≡◌, ◌<◌, ◌≤◌, ℕ, ◌+◌, ◌*◌, max, Bool, List, Some, length, slice_get}
-use Rattle.gate_list.specs.Gate.{Plan}
-use Rattle.list_config.specs.History.{Accepted}
+use Rattle.gates.specs.Gate.{Plan}
+use Rattle.gates.specs.History.{Accepted}
 use Rattle.abstract_port.specs.declared.Start.{Start}
 use Rattle.abstract_port.specs.declared.Event.{Event}
-use Rattle.separation.specs.Served.{IsFirst}
-use Rattle.separation.specs.Traffic.{Came}
+use Rattle.abstract_port.specs.Served.{IsFirst}
+use Rattle.abstract_port.specs.Traffic.{Came}
 use Rattle.delay_bounds.specs.ForEver.{Repeats}
 use Rattle.delay_bounds.specs.Walk.{may_by}
 use Rattle.any_traffic.specs.PeriodicWindows.{ArePeriodic, ComeByFlows, IsFreeFrom, IsLateStart, PeriodicFlow, window_of}

@@ -1,7 +1,7 @@
 -- How many frames of periodic flows with jitter wait at once at most, and that none is dropped where there is room for so many.
 use Rattle.std.specs.Prelude.{◌≡◌, ◌<◌, ◌≤◌, ◌⊎◌, ℕ, suc, ◌+◌, ◌-◌, max, Bool, List}
-use Rattle.gate_list.specs.Gate.{Plan}
-use Rattle.list_config.specs.History.{Accepted}
+use Rattle.gates.specs.Gate.{Plan}
+use Rattle.gates.specs.History.{Accepted}
 use Rattle.abstract_port.specs.declared.Event.{Event}
 use Rattle.delay_bounds.specs.Walk.{may_by}
 use Rattle.any_traffic.specs.LateForEver.{LateRecurs}

@@ -4,11 +4,11 @@
 -- Moments count from the change moment of the schedule (IEEE Std 802.1Q-2018, 8.6.9), and times are in picoseconds.
 use Rattle.std.specs.Prelude.{◌≡◌, ◌<◌, ◌≤◌, ℕ, zero, suc, ◌+◌, ◌-◌, ◌*◌, ◌/◌, max, Bool, List, Some, slice_get, sum_by}
 use Rattle.wire_time.specs.Wire.{occupancy_of}
-use Rattle.gate_list.specs.Gate.{Plan}
-use Rattle.list_config.specs.History.{Accepted}
+use Rattle.gates.specs.Gate.{Plan}
+use Rattle.gates.specs.History.{Accepted}
 use Rattle.abstract_port.specs.declared.Event.{Event}
-use Rattle.separation.specs.Served.{IsFirst}
-use Rattle.separation.specs.Traffic.{Came}
+use Rattle.abstract_port.specs.Served.{IsFirst}
+use Rattle.abstract_port.specs.Traffic.{Came}
 use Rattle.delay_bounds.specs.Walk.{may_by}
 use Rattle.any_traffic.specs.ArrivalWindows.{ArrivalWindow, IsIn, StartsWithin}
 use Rattle.any_traffic.specs.Runs.{IsApartRun, queued}

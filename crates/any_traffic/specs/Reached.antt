@@ -1,11 +1,11 @@
 -- Slots are reached: where all frames of a class are of one length, and the wire is kept busy with them, they start at the slots exactly.
 use Rattle.std.specs.Prelude.{◌≡◌, ◌<◌, ◌≤◌, ℕ, suc, ◌+◌, ◌-◌, List, Some, slice_get}
 use Rattle.wire_time.specs.Wire.{occupancy_of}
-use Rattle.gate_list.specs.Gate.{Plan}
-use Rattle.list_config.specs.History.{Accepted}
+use Rattle.gates.specs.Gate.{Plan}
+use Rattle.gates.specs.History.{Accepted}
 use Rattle.abstract_port.specs.declared.Start.{Start}
 use Rattle.abstract_port.specs.declared.Event.{Event}
-use Rattle.separation.specs.Traffic.{Came}
+use Rattle.abstract_port.specs.Traffic.{Came}
 use Rattle.delay_bounds.specs.Walk.{may_by}
 use Rattle.any_traffic.specs.Runs.{IsApartRun, queued, started}
 use Rattle.any_traffic.specs.Slots.{IsSlot}

@@ -3,8 +3,8 @@
 -- What is asked of a higher class is a start curve, and what a law says of a class gives it one (`StartCurveLaw`): so classes are judged
 -- from the highest down.
 use Rattle.std.specs.Prelude.{◌≡◌, ◌<◌, ◌≤◌, ◌⊎◌, ℕ, ◌+◌, ◌-◌, ◌*◌, List, sum_by}
-use Rattle.gate_list.specs.Gate.{Plan, in_ps}
-use Rattle.list_config.specs.History.{Accepted}
+use Rattle.gates.specs.Gate.{Plan, in_ps}
+use Rattle.gates.specs.History.{Accepted}
 use Rattle.abstract_port.specs.declared.Event.{Event}
 use Rattle.delay_bounds.specs.Walk.{may_by}
 use Rattle.any_traffic.specs.SharedRuns.{IsSharedInTime, IsSharedRun}

@@ -1,13 +1,13 @@
 -- A class that shares its windows, in a run: what is asked of the frames of the classes, and what bounds say of this one.
 use Rattle.std.specs.Prelude.{◌≡◌, ◌<◌, ◌≤◌, ℕ, suc, ◌+◌, ◌-◌, List, Some, length, slice_get, sum_by, take, drop}
-use Rattle.gate_list.specs.Gate.{Plan}
-use Rattle.list_config.specs.History.{Accepted}
+use Rattle.gates.specs.Gate.{Plan}
+use Rattle.gates.specs.History.{Accepted}
 use Rattle.abstract_port.specs.declared.Start.{Start}
 use Rattle.abstract_port.specs.declared.Event.{Event}
 use Rattle.abstract_port.specs.AbstractPort.{new_port}
 use Rattle.abstract_port.specs.Answers.{answers_of}
 use Rattle.abstract_port.specs.Laws.{starts_in}
-use Rattle.separation.specs.Traffic.{Came}
+use Rattle.abstract_port.specs.Traffic.{Came}
 use Rattle.any_traffic.specs.ArrivalCurve.{ConformTo}
 use Rattle.any_traffic.specs.Runs.{IsScheduledRun, end_of_run, offered, queued, started}
 use Rattle.any_traffic.specs.SharedSlots.{slots_by}

@@ -5,7 +5,7 @@
 -- of its class or of a higher one has the wire at each slot, which began meanwhile: the first slot is behind what another class may still
 -- have of the wire, and the others are a pitch apart. The pitch may be any: a frame has the wire at as many slots as its length covers.
 use Rattle.std.specs.Prelude.{◌≡◌, ◌<◌, ◌≤◌, ◌⊎◌, ℕ, zero, suc, ◌+◌, ◌-◌, ◌/◌, Bool, true, false, not, ◌&&◌, List, Some, slice_get}
-use Rattle.gate_list.specs.Gate.{Plan}
+use Rattle.gates.specs.Gate.{Plan}
 use Rattle.abstract_port.specs.declared.Start.{Start}
 use Rattle.delay_bounds.specs.Walk.{may_by}
 

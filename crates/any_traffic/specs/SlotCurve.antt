@@ -4,7 +4,7 @@ use Rattle.std.specs.Prelude.{◌≡◌, ◌<◌, ◌≤◌, ℕ, suc, ◌+◌, 
 use Rattle.wire_time.specs.declared.TheConstants.{MIN_MTU}
 use Rattle.wire_time.specs.Wire.{occupancy_of}
 use Rattle.abstract_port.specs.declared.Event.{Event}
-use Rattle.separation.specs.Traffic.{Came}
+use Rattle.abstract_port.specs.Traffic.{Came}
 use Rattle.any_traffic.specs.Runs.{offered}
 use Rattle.any_traffic.specs.SharedSlots.{slots_of}
 use Rattle.any_traffic.specs.Sporadic.{AreFlows, AreSplit, Sporadic, curve_of}

@@ -2,14 +2,14 @@
 -- more than that.
 use Rattle.std.specs.Prelude.{◌≡◌, ◌<◌, ◌≤◌, ℕ, ◌+◌, ◌*◌, min, List, Some, slice_get}
 use Rattle.wire_time.specs.Wire.{occupancy_of}
-use Rattle.gate_list.specs.Gate.{Plan}
-use Rattle.list_config.specs.History.{Accepted}
+use Rattle.gates.specs.Gate.{Plan}
+use Rattle.gates.specs.History.{Accepted}
 use Rattle.abstract_port.specs.declared.Event.{Event}
 use Rattle.any_traffic.specs.Runs.{IsScheduledRun, offered, started}
 use Rattle.any_traffic.specs.SharedRuns.{IsSharedInTime, KeepStartCurve}
 use Rattle.any_traffic.specs.SharedSlots.{slots_of}
 use Rattle.any_traffic.specs.SlotCurve.{CoverUpTo}
-use Rattle.separation.specs.Traffic.{Came}
+use Rattle.abstract_port.specs.Traffic.{Came}
 
 -- The start curve of a class by its slot curve. The frames that start from a moment to one that is y later wait at the first, or come up to
 -- the second: so they are no more than ever wait at once, of which each covers as many slots as the longest, and those that come within y.

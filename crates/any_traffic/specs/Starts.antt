@@ -1,12 +1,12 @@
 -- The starts of a class in a run: whose they are, and how early they can be. This holds of any class, kept apart or not.
 use Rattle.std.specs.Prelude.{◌≡◌, ◌≤◌, ℕ, ◌+◌, List, Some, slice_get}
 use Rattle.wire_time.specs.Wire.{occupancy_of}
-use Rattle.gate_list.specs.Gate.{Plan}
-use Rattle.list_config.specs.History.{Accepted}
+use Rattle.gates.specs.Gate.{Plan}
+use Rattle.gates.specs.History.{Accepted}
 use Rattle.abstract_port.specs.declared.Start.{Start}
 use Rattle.abstract_port.specs.declared.Event.{Event}
-use Rattle.separation.specs.Served.{IsFirst, start_at}
-use Rattle.separation.specs.Traffic.{Came}
+use Rattle.abstract_port.specs.Served.{IsFirst, start_at}
+use Rattle.abstract_port.specs.Traffic.{Came}
 use Rattle.delay_bounds.specs.Walk.{may_by}
 use Rattle.any_traffic.specs.Runs.{IsApartRun, IsScheduledRun, queued, started}
 

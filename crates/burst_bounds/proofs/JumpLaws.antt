@@ -2,8 +2,8 @@
 -- another from the first moment on.
 use Rattle.std.proofs.Common.{◌≡◌, ◌<◌, ◌≤◌, ◌⊎◌, ℕ, zero, suc, ◌+◌, ◌-◌, ◌*◌, Bool, true, false, inl, inr, sym, ap, ◌∙◌, subst, arith, le_refl}
 use Rattle.std.proofs.lemmas.Bool.{both_ways, cases_Bool, cases_lt}
-use Rattle.gate_list.specs.Gate.{Plan}
-use Rattle.separation.specs.Served.{IsFirst}
+use Rattle.gates.specs.Gate.{Plan}
+use Rattle.abstract_port.specs.Served.{IsFirst}
 use Rattle.delay_bounds.specs.Walk.{may_by}
 use Rattle.delay_bounds.proofs.WaitLaws.{one_first}
 use Rattle.any_traffic.specs.BusyPeriod.{IsBusyPeriod}

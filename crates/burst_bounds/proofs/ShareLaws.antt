@@ -3,9 +3,9 @@ use Rattle.std.proofs.Common.{◌≡◌, ◌<◌, ◌≤◌, ℕ, zero, suc, ◌
 use Rattle.std.proofs.Math.Nat.{div-add-mod}
 use Rattle.std.proofs.lemmas.Bool.{both_ways, cases_lt}
 use Rattle.wire_time.specs.Moment.{greatest_moment}
-use Rattle.gate_list.specs.Gate.{IsSchedule, Plan, in_ps, mask_since, opens, prefix}
-use Rattle.gate_list.proofs.OpenLaws.{open_at, open_from, open_within}
-use Rattle.separation.specs.Served.{IsFirst}
+use Rattle.gates.specs.Gate.{IsSchedule, Plan, in_ps, mask_since, opens, prefix}
+use Rattle.gates.proofs.OpenLaws.{open_at, open_from, open_within}
+use Rattle.abstract_port.specs.Served.{IsFirst}
 use Rattle.delay_bounds.proofs.GateLaws.{by_repeats}
 use Rattle.delay_bounds.proofs.LongestWaitLaws.{closes_at}
 use Rattle.delay_bounds.specs.ForEver.{Repeats}

@@ -1,7 +1,7 @@
 -- Why there are no slots.
 use Rattle.std.proofs.Common.{◌<◌, ◌≤◌, ℕ, inl, inr, arith}
 use Rattle.wire_time.specs.Moment.{greatest_moment}
-use Rattle.gate_list.specs.Gate.{Plan}
+use Rattle.gates.specs.Gate.{Plan}
 use Rattle.delay_bounds.specs.Walk.{may_by}
 use Rattle.burst_bounds.specs.Slotless.{IsNoSlot, IsSlotless}
 use Rattle.burst_bounds.specs.declared.Unbound.{Unbound}

@@ -1,6 +1,6 @@
 -- Why bounds aren't seen.
 use Rattle.std.proofs.Common.{◌≡◌, ◌≤◌, ℕ, ◌+◌, ◌-◌, List, length, Option, Result, Ok, Err, IfErr, inl, inr, refl, sym, subst, arith}
-use Rattle.gate_list.specs.Gate.{Plan}
+use Rattle.gates.specs.Gate.{Plan}
 use Rattle.delay_bounds.specs.Walk.{may_by}
 use Rattle.burst_bounds.specs.Busy.{IsBusyUntil}
 use Rattle.burst_bounds.specs.Reach.{IsRead, IsUnseen}

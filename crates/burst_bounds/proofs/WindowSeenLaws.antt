@@ -1,8 +1,8 @@
 -- The moments around the end of a window, one after another.
 use Rattle.std.proofs.Common.{◌≡◌, ◌<◌, ◌≤◌, ℕ, zero, suc, ◌+◌, ◌-◌, ◌*◌, ◌^◌, Bool, true, false, List, ◌∷◌, length, get_or, Option, inl, inr, ap, ◌∙◌, subst, arith, add-mul, mul-add}
 use Rattle.std.proofs.lemmas.Bool.{both_ways, cases_lt}
-use Rattle.gate_list.specs.Gate.{Plan, in_ps, prefix}
-use Rattle.separation.specs.Served.{IsFirst}
+use Rattle.gates.specs.Gate.{Plan, in_ps, prefix}
+use Rattle.abstract_port.specs.Served.{IsFirst}
 use Rattle.delay_bounds.specs.Walk.{may_by}
 use Rattle.any_traffic.specs.Slots.{IsSlot}
 use Rattle.burst_bounds.specs.Busy.{HasFrames}

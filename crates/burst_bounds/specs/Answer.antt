@@ -1,6 +1,6 @@
 -- Why talkers have no bounds.
 use Rattle.std.specs.Prelude.{ℕ, List}
-use Rattle.gate_list.specs.Gate.{Plan}
+use Rattle.gates.specs.Gate.{Plan}
 use Rattle.burst_bounds.specs.Overload.{IsOverloaded}
 use Rattle.burst_bounds.specs.Talkers.{curve, longest_need}
 use Rattle.burst_bounds.specs.Unbound.{IsLong, IsStuck}

@@ -1,6 +1,6 @@
 -- Moments from which the bounds hold.
 use Rattle.std.specs.Prelude.{◌≡◌, ◌<◌, ◌≤◌, ◌⊎◌, ℕ, ◌+◌, ◌-◌, ◌*◌, true, false, length}
-use Rattle.gate_list.specs.Gate.{Plan, in_ps, prefix}
+use Rattle.gates.specs.Gate.{Plan, in_ps, prefix}
 use Rattle.delay_bounds.specs.Walk.{may_by}
 use Rattle.any_traffic.specs.BusyPeriod.{IsBusyPeriod}
 use Rattle.burst_bounds.specs.Walk.{AreBoundsFrom}

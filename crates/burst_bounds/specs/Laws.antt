@@ -1,7 +1,7 @@
 -- The laws of this crate.
 use Rattle.std.specs.Prelude.{◌<◌, ◌≤◌, ℕ}
-use Rattle.gate_list.specs.Gate.{Plan, IsSchedule}
-use Rattle.separation.specs.Served.{IsFirst}
+use Rattle.gates.specs.Gate.{Plan, IsSchedule}
+use Rattle.abstract_port.specs.Served.{IsFirst}
 use Rattle.delay_bounds.specs.Walk.{may_by}
 use Rattle.any_traffic.specs.BusyPeriod.{IsSubadditive}
 use Rattle.any_traffic.specs.AnyTraffic.{AreCurveBounds}

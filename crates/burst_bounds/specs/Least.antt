@@ -1,6 +1,6 @@
 -- The least bounds of a class.
 use Rattle.std.specs.Prelude.{◌≤◌, ℕ}
-use Rattle.gate_list.specs.Gate.{Plan}
+use Rattle.gates.specs.Gate.{Plan}
 use Rattle.any_traffic.specs.AnyTraffic.{AreCurveBounds}
 
 -- Bounds of a plan with a curve, and no others have a shorter wait or fewer frames that wait at once.

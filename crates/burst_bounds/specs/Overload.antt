@@ -1,7 +1,7 @@
 -- Overload: in the long run more frames come than the windows take.
 use Rattle.std.specs.Prelude.{◌≡◌, ◌<◌, ℕ, ◌+◌, ◌*◌, ◌/◌, ◌^◌, List, ◌∷◌, length}
-use Rattle.gate_list.specs.Gate.{Plan, in_ps}
-use Rattle.separation.specs.Served.{IsFirst}
+use Rattle.gates.specs.Gate.{Plan, in_ps}
+use Rattle.abstract_port.specs.Served.{IsFirst}
 use Rattle.delay_bounds.specs.Walk.{may_by}
 use Rattle.any_traffic.specs.AnyTraffic.{AreCurveBounds}
 use Rattle.any_traffic.specs.Slots.{IsSlot}

@@ -1,6 +1,6 @@
 -- How far a busy time is looked at, and what is so then.
 use Rattle.std.specs.Prelude.{◌≡◌, ◌<◌, ◌≤◌, ℕ, ◌+◌, ◌-◌, ◌*◌, ◌%◌, ◌^◌, true, false, List, length, slice_index, Option, Some, None}
-use Rattle.gate_list.specs.Gate.{Plan, in_ps, prefix}
+use Rattle.gates.specs.Gate.{Plan, in_ps, prefix}
 use Rattle.delay_bounds.specs.ForEver.{Repeats}
 use Rattle.delay_bounds.specs.Walk.{may_by}
 use Rattle.any_traffic.specs.AnyTraffic.{AreCurveBounds}

@@ -1,7 +1,7 @@
 -- Why there is no slot.
 use Rattle.std.specs.Prelude.{◌<◌, ◌≤◌, ℕ, ◌-◌}
 use Rattle.wire_time.specs.Moment.{greatest_moment}
-use Rattle.gate_list.specs.Gate.{Plan}
+use Rattle.gates.specs.Gate.{Plan}
 use Rattle.burst_bounds.specs.Unbound.{IsLate, IsStuck}
 use Rattle.burst_bounds.specs.declared.Unbound.{Unbound}
 use Rattle.burst_bounds.specs.declared.Unbound.TheVariants.{Overloaded, Long, Stuck, Memory}

@@ -3,8 +3,8 @@
 
 ghost use Rattle.std.specs.Prelude.{◌≡◌, ℕ, ◌<◌, ◌≤◌, ◌+◌, ◌-◌, ◌*◌, ◌↔◌, Err, None, true, false, IfErr, IfOk, IfSome, IsTrue, MatchOption, length};
 ghost use Rattle.wire_time.specs.Moment.{greatest_moment};
-ghost use Rattle.gate_list.specs.Gate.{IsSchedule, Plan, in_ps};
-ghost use Rattle.list_position.specs.Position.{IsPlaced};
+ghost use Rattle.gates.specs.Gate.{IsSchedule, Plan, in_ps};
+ghost use Rattle.jumping.specs.Position.{IsPlaced};
 ghost use Rattle.delay_bounds.specs.Walk.{may_by};
 ghost use Rattle.burst_bounds.specs.Busy.{HasFrames, IsBusyUntil, Rises};
 ghost use Rattle.burst_bounds.specs.Reach.{AreWindowsSeen, IsRead, IsSeen, IsSmall, IsUnseen, IsWindowSeen, frames_of};
@@ -14,8 +14,8 @@ use crate::busy::{busy_frames, longest_wait, most_waiting};
 use crate::repeats::{Repeat, frames_until};
 use crate::slots::{is_slot, slots_from};
 use crate::{Bounds, Unbound};
-use gate_list::{Schedule, Visits};
-use list_position::Position;
+use gates::gate_list::{Schedule, Visits};
+use jumping::list_position::Position;
 use std::alloc::Allocator;
 use wire_time::CLASSES;
 

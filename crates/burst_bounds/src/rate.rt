@@ -2,8 +2,8 @@
 
 ghost use Rattle.std.specs.Prelude.{◌≡◌, ℕ, ◌<◌, ◌≤◌, ◌+◌, ◌-◌, ◌*◌, ◌%◌, ◌^◌, All, None, true, false, IfErr, IfOk, IfSome, IsTrue, MatchOption, length, map, replicate, slice_index};
 ghost use Rattle.wire_time.specs.Moment.{greatest_moment};
-ghost use Rattle.gate_list.specs.Gate.{IsSchedule, in_ps, prefix};
-ghost use Rattle.list_position.specs.Position.{IsPlaced};
+ghost use Rattle.gates.specs.Gate.{IsSchedule, in_ps, prefix};
+ghost use Rattle.jumping.specs.Position.{IsPlaced};
 ghost use Rattle.delay_bounds.specs.Walk.{may_by};
 ghost use Rattle.burst_bounds.specs.Overload.{IsOverloaded, IsShare, IsShareless, IsShareUnknown, wholes};
 ghost use Rattle.burst_bounds.specs.Talkers.{IsTalker, longest_need};
@@ -12,8 +12,8 @@ ghost use Rattle.burst_bounds.specs.Walk.{AreBelow, talker_at};
 
 use crate::slots::{is_slot, next_slot};
 use crate::{Talker, Unbound};
-use gate_list::{Schedule, Visits};
-use list_position::Position;
+use gates::gate_list::{Schedule, Visits};
+use jumping::list_position::Position;
 use std::alloc::{AllocError, Allocator};
 use wire_time::CLASSES;
 

@@ -2,9 +2,9 @@
 
 ghost use Rattle.std.specs.Prelude.{◌≡◌, ◌<◌, ◌≤◌, ◌+◌, None, IfErr, IfOk, IfSome, length};
 ghost use Rattle.wire_time.specs.Moment.{greatest_moment};
-ghost use Rattle.gate_list.specs.Gate.{IsSchedule, in_ps};
-ghost use Rattle.list_position.specs.Position.{IsPlaced, StoodBy};
-ghost use Rattle.separation.specs.Served.{IsFirst};
+ghost use Rattle.gates.specs.Gate.{IsSchedule, in_ps};
+ghost use Rattle.jumping.specs.Position.{IsPlaced, StoodBy};
+ghost use Rattle.abstract_port.specs.Served.{IsFirst};
 ghost use Rattle.delay_bounds.specs.Bounds.{first_fit};
 ghost use Rattle.delay_bounds.specs.Walk.{may_by};
 ghost use Rattle.burst_bounds.specs.Walk.{AreBelow, AreSlots};
@@ -12,8 +12,8 @@ ghost use Rattle.burst_bounds.specs.Slotless.{IsNoSlot, IsSlotless};
 
 use crate::Unbound;
 use delay_bounds::fit::fit;
-use gate_list::{Schedule, Visits};
-use list_position::{Need, Position};
+use gates::gate_list::{Schedule, Visits};
+use jumping::list_position::{Need, Position};
 use std::alloc::Allocator;
 use wire_time::{CLASSES, MAX_MOMENT};
 

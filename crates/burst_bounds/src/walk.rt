@@ -1,8 +1,8 @@
 //! The bounds of a class, by the busy times from finitely many moments.
 
 ghost use Rattle.std.specs.Prelude.{◌≡◌, ◌<◌, ◌≤◌, ◌*◌, ◌^◌, All, Err, false, None, IfErr, IfOk, IfSome, length};
-ghost use Rattle.gate_list.specs.Gate.{IsSchedule, in_ps};
-ghost use Rattle.list_position.specs.Position.{IsPlaced};
+ghost use Rattle.gates.specs.Gate.{IsSchedule, in_ps};
+ghost use Rattle.jumping.specs.Position.{IsPlaced};
 ghost use Rattle.burst_bounds.specs.Least.{AreLeast};
 ghost use Rattle.burst_bounds.specs.Reach.{IsCommon, IsUnseen};
 ghost use Rattle.burst_bounds.specs.Talkers.{IsTalker, curve, longest_need};
@@ -14,8 +14,8 @@ use crate::rate::is_overloaded;
 use crate::repeats::{Repeat, repeat_of};
 use crate::slots::slots_from;
 use crate::{Bounds, Talker, Unbound};
-use gate_list::{Schedule, Visits};
-use list_position::Position;
+use gates::gate_list::{Schedule, Visits};
+use jumping::list_position::Position;
 use std::alloc::Allocator;
 use wire_time::CLASSES;
 

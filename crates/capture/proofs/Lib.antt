@@ -1,7 +1,9 @@
-pub mod Slices
-pub mod RecordLemmas
-pub mod NextLemmas
-pub mod HeaderLemmas
-pub mod WriterLemmas
 pub mod CaptureLaws
+pub mod ClassLaws
+pub mod HeaderLemmas
 pub mod LayoutLaws
+pub mod NextLemmas
+pub mod RecordLemmas
+pub mod RingLaws
+pub mod Slices
+pub mod WriterLemmas

@@ -2,8 +2,8 @@
 use Rattle.std.proofs.Common.{◌≡◌, ℕ, List, ◌++◌, length, Option, refl, arith}
 use Rattle.std.proofs.lemmas.List.{length-append}
 use Rattle.capture.specs.Words.{Endian, Big, Little, Format, u32_octets, spelled_record_header}
-use Rattle.octet_writer.specs.Writes.{FallsShort}
-use Rattle.octet_writer.proofs.Fronts.{sent_none}
+use Rattle.text.specs.Writes.{FallsShort}
+use Rattle.text.proofs.Fronts.{sent_none}
 
 pub length-u32_octets : (e : Endian) (x : ℕ) → length (u32_octets e x) ≡ 4
 length-u32_octets Big x = refl

@@ -1,5 +1,5 @@
 -- The words of contracts and proofs, from one place.
-pub use Rattle.octet_writer.specs.Writes.{Writes}
+pub use Rattle.text.specs.Writes.{Writes}
 pub use Rattle.capture.specs.CaptureReader.{left}
 pub use Rattle.capture.specs.CaptureWriter.{written_format, written_header}
 pub use Rattle.capture.specs.Captures.{AnswersRecords, AreRecords, HasOneReading}

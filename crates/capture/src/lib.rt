@@ -8,6 +8,7 @@ mod fault;
 mod format;
 mod header;
 pub mod laws;
+pub mod octet_store;
 mod read_ahead;
 mod reader;
 mod record;

@@ -9,8 +9,8 @@ use crate::format::MAX_RECORD_OCTETS;
 use crate::header::{ETHERNET, FILE_HEADER, MAJOR_VERSION, MINOR_VERSION, NANOS_MAGIC};
 use crate::read_ahead::RECORD_HEADER;
 use byteorder::{ByteOrder, LittleEndian};
-use octet_writer::{PutLine, put};
 use std::io::Write;
+use text::octet_writer::{PutLine, put};
 
 /// The first moment that a time stamp can't say, in picoseconds: its seconds have 32 bits.
 pub const CAPTURE_END: u128 = 4_294_967_296_000_000_000_000;

@@ -5,7 +5,7 @@ use Rattle.std.specs.Option.{option_map_or}
 use Rattle.std.proofs.lemmas.Bool.{leb-true, leb-false, ltb-true, ltb-false, false≢true}
 use Rattle.std.proofs.lemmas.Option.{same_Some}
 use Rattle.wire_time.specs.Moment.{greatest_moment}
-use Rattle.gate_list.specs.Gate.{IsSchedule, Plan, in_ps}
+use Rattle.gates.specs.Gate.{IsSchedule, Plan, in_ps}
 use Rattle.delay_bounds.specs.declared.Flow.{Flow}
 use Rattle.delay_bounds.specs.declared.Told.{Told}
 use Rattle.delay_bounds.specs.declared.Unbound.{Unbound}

@@ -2,12 +2,12 @@
 use Rattle.std.proofs.Common.{◌≡◌, ◌<◌, ◌≤◌, ℕ, ◌+◌, ◌-◌, max, List, [], ◌∷◌, Some, sym, subst, arith}
 use Rattle.wire_time.specs.Wire.{occupancy_of}
 use Rattle.wire_time.specs.declared.Frame.{Frame}
-use Rattle.gate_list.specs.Gate.{Plan}
-use Rattle.list_config.specs.History.{Accepted, open_through}
+use Rattle.gates.specs.Gate.{Plan}
+use Rattle.gates.specs.History.{Accepted, open_through}
 use Rattle.abstract_port.specs.declared.Start.{Start}
-use Rattle.separation.proofs.ServiceLaws.{served_law}
-use Rattle.separation.specs.Served.{AreServed, IsFirst, IsStart}
-use Rattle.separation.specs.Traffic.{Came}
+use Rattle.abstract_port.proofs.ServiceLaws.{served_law}
+use Rattle.abstract_port.specs.Served.{AreServed, IsFirst, IsStart}
+use Rattle.abstract_port.specs.Traffic.{Came}
 use Rattle.delay_bounds.specs.AnyMoment.{AnyMomentLaw, AreSoon, IsLongestWait}
 use Rattle.delay_bounds.proofs.GateLaws.{same_gates}
 use Rattle.delay_bounds.proofs.WaitLaws.{first_since, one_first}

@@ -3,7 +3,7 @@ use Rattle.std.proofs.Common.{◌≡◌, ◌<◌, ◌≤◌, ℕ, ◌+◌, ◌-�
 use Rattle.std.proofs.lemmas.Bool.{cases_lt, false≢true, leb-true, ltb-true}
 use Rattle.std.proofs.lemmas.Option.{same_Some}
 use Rattle.std.specs.Prelude.{nat_lt, nat_le}
-use Rattle.gate_list.specs.Gate.{Plan, in_ps}
+use Rattle.gates.specs.Gate.{Plan, in_ps}
 use Rattle.delay_bounds.specs.declared.Flow.{Flow}
 use Rattle.delay_bounds.specs.declared.look.Backlog.{Backlog}
 use Rattle.delay_bounds.specs.declared.look.Look.{Look}

@@ -1,8 +1,8 @@
 -- No frame of the flows is dropped.
 use Rattle.std.proofs.Common.{ℕ, length, IsSome, sym, subst}
-use Rattle.gate_list.specs.Gate.{in_ps}
+use Rattle.gates.specs.Gate.{in_ps}
 use Rattle.abstract_port.specs.AbstractPort.{new_port}
-use Rattle.separation.specs.Traffic.{offered_in}
+use Rattle.abstract_port.specs.Traffic.{offered_in}
 use Rattle.delay_bounds.specs.Claim.{offsets_of}
 use Rattle.delay_bounds.specs.Bounds.{told}
 use Rattle.delay_bounds.specs.Waits.{DropsLaw}

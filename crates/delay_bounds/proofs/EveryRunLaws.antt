@@ -1,9 +1,9 @@
 -- Bounds of flows hold in every run.
 use Rattle.std.proofs.Common.{IsSome, ◌≡◌, ℕ, suc, Bool, List, [], ◌∷◌, Some, refl, sym, ap, ◌∙◌, subst}
 use Rattle.std.proofs.lemmas.Option.{same_Some}
-use Rattle.gate_list.specs.Gate.{in_ps}
+use Rattle.gates.specs.Gate.{in_ps}
 use Rattle.abstract_port.specs.declared.Start.{Start}
-use Rattle.separation.specs.Traffic.{Came}
+use Rattle.abstract_port.specs.Traffic.{Came}
 use Rattle.delay_bounds.proofs.DropLaws.{drops_law}
 use Rattle.delay_bounds.proofs.StepLaws.{first_told, next_is}
 use Rattle.delay_bounds.proofs.WaitLaws.{step_is, told_next, bounds_law}

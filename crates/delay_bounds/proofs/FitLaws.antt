@@ -1,10 +1,10 @@
 -- A first moment that is found is the first.
 use Rattle.std.proofs.Common.{◌≡◌, ◌<◌, ◌≤◌, ℕ, zero, suc, ◌+◌, true, false, cond, Some, None, inl, inr, refl, sym, ap, ◌∙◌, subst, arith, le_refl}
 use Rattle.std.proofs.lemmas.Bool.{cases_lt}
-use Rattle.gate_list.specs.Open.{open_while}
-use Rattle.gate_list.specs.Stay.{NoneFrom}
-use Rattle.list_config.proofs.IdleLaws.{none_flat}
-use Rattle.list_position.specs.Position.{IsFlat}
+use Rattle.gates.specs.Open.{open_while}
+use Rattle.gates.specs.Stay.{NoneFrom}
+use Rattle.gates.proofs.IdleLaws.{none_flat}
+use Rattle.jumping.specs.Position.{IsFlat}
 use Rattle.delay_bounds.specs.Bounds.{first_fit}
 
 module _ (mask : ℕ → ℕ) (class d : ℕ) where

@@ -1,8 +1,8 @@
 -- The first frame that finds no room.
 use Rattle.std.proofs.Common.{ℕ, length, ap, ◌∙◌, arith}
-use Rattle.gate_list.specs.Gate.{in_ps}
+use Rattle.gates.specs.Gate.{in_ps}
 use Rattle.abstract_port.specs.AbstractPort.{new_port}
-use Rattle.separation.specs.Traffic.{offered_in}
+use Rattle.abstract_port.specs.Traffic.{offered_in}
 use Rattle.delay_bounds.specs.Claim.{offsets_of}
 use Rattle.delay_bounds.specs.Full.{FullLaw}
 use Rattle.delay_bounds.specs.Walk.{after, begun}

@@ -3,11 +3,11 @@ use Rattle.std.proofs.Common.{◌≡◌, ◌<◌, ◌≤◌, ℕ, zero, suc, ◌
 use Rattle.std.proofs.lemmas.Bool.{cases_Bool, le-ltb, le-leb}
 use Rattle.std.proofs.Math.Nat.{add-mod_left}
 use mathlib.Core.Path.{fun_ext}
-use Rattle.gate_list.specs.Gate.{Plan, in_ps, mask_at, mask_since}
-use Rattle.gate_list.specs.Open.{open_while}
-use Rattle.gate_list.proofs.OpenLaws.{shift_while}
-use Rattle.list_config.specs.History.{Accepted, in_force, pending, gates, open_through, mask_under, mask_of_plan}
-use Rattle.list_config.proofs.StretchLaws.{unheld_is}
+use Rattle.gates.specs.Gate.{Plan, in_ps, mask_at, mask_since}
+use Rattle.gates.specs.Open.{open_while}
+use Rattle.gates.proofs.OpenLaws.{shift_while}
+use Rattle.gates.specs.History.{Accepted, in_force, pending, gates, open_through, mask_under, mask_of_plan}
+use Rattle.gates.proofs.StretchLaws.{unheld_is}
 use Rattle.delay_bounds.specs.ForEver.{Repeats}
 use Rattle.delay_bounds.specs.Walk.{may_by}
 

@@ -4,12 +4,12 @@ use Rattle.std.specs.Option.{option_map_or}
 use Rattle.std.proofs.Math.Nat.{div-add-mod, mul-add-mod_self_left}
 use Rattle.std.proofs.lemmas.Bool.{both_ways, cases_Bool, cases_lt}
 use Rattle.std.proofs.lemmas.Option.{slice_get-get_or}
-use Rattle.gate_list.specs.Gate.{IsSchedule, IsShownAt, Plan, in_ps, mask_at, mask_since, opens, prefix}
-use Rattle.gate_list.specs.Open.{open_while}
-use Rattle.gate_list.specs.declared.Entry.{Entry}
-use Rattle.gate_list.proofs.OpenLaws.{open_at, open_from}
-use Rattle.gate_list.proofs.PhaseLaws.{phase_is}
-use Rattle.separation.specs.Served.{IsFirst}
+use Rattle.gates.specs.Gate.{IsSchedule, IsShownAt, Plan, in_ps, mask_at, mask_since, opens, prefix}
+use Rattle.gates.specs.Open.{open_while}
+use Rattle.gates.specs.declared.gate_list.Entry.{Entry}
+use Rattle.gates.proofs.OpenLaws.{open_at, open_from}
+use Rattle.gates.proofs.PhaseLaws.{phase_is}
+use Rattle.abstract_port.specs.Served.{IsFirst}
 use Rattle.delay_bounds.specs.AnyMoment.{IsLongestWait}
 use Rattle.delay_bounds.specs.Bounds.{first_fit}
 use Rattle.delay_bounds.specs.ForEver.{Repeats}

@@ -3,17 +3,17 @@ use Rattle.std.proofs.Common.{◌≡◌, ◌<◌, ◌≤◌, ℕ, zero, suc, ◌
 use Rattle.std.proofs.lemmas.Bool.{cases_lt, both_ways}
 use Rattle.std.proofs.lemmas.Option.{same_Some}
 use Rattle.wire_time.specs.declared.Frame.{Frame}
-use Rattle.gate_list.specs.Gate.{Plan, in_ps}
-use Rattle.list_config.specs.History.{Accepted, open_through}
+use Rattle.gates.specs.Gate.{Plan, in_ps}
+use Rattle.gates.specs.History.{Accepted, open_through}
 use Rattle.abstract_port.specs.declared.Start.{Start}
 use Rattle.abstract_port.specs.declared.Event.{Event}
 use Rattle.abstract_port.specs.AbstractPort.{new_port}
 use Rattle.abstract_port.specs.Answers.{answers_of}
 use Rattle.abstract_port.specs.Laws.{starts_in}
-use Rattle.separation.specs.Separation.{IsKeptApart}
-use Rattle.separation.specs.Traffic.{Came, IsOnly, offered_in, queued_in, starts_of_class}
-use Rattle.separation.specs.Served.{AreServed}
-use Rattle.separation.proofs.ServiceLaws.{served_law}
+use Rattle.abstract_port.specs.Separation.{IsKeptApart}
+use Rattle.abstract_port.specs.Traffic.{Came, IsOnly, offered_in, queued_in, starts_of_class}
+use Rattle.abstract_port.specs.Served.{AreServed}
+use Rattle.abstract_port.proofs.ServiceLaws.{served_law}
 use Rattle.delay_bounds.specs.declared.Flow.{Flow}
 use Rattle.delay_bounds.specs.Claim.{offsets_of, earliest, flow_at, coming, AreComing}
 use Rattle.delay_bounds.specs.Bounds.{Track, first_fit, from_on}

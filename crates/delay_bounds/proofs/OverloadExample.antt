@@ -1,8 +1,8 @@
 -- A class that is always open, and overloaded by one flow: each microsecond a frame comes that takes three.
 use Rattle.std.proofs.Common.{◌≡◌, ◌<◌, ◌≤◌, ℕ, zero, suc, ◌+◌, true, [], ◌∷◌, List, Some, None, refl, ap, ◌∙◌, arith}
 use Rattle.std.proofs.lemmas.Option.{same_Some}
-use Rattle.gate_list.specs.Gate.{Plan, mask_since}
-use Rattle.gate_list.proofs.OpenLaws.{open_from}
+use Rattle.gates.specs.Gate.{Plan, mask_since}
+use Rattle.gates.proofs.OpenLaws.{open_from}
 use Rattle.delay_bounds.specs.declared.Flow.{Flow}
 use Rattle.delay_bounds.specs.Bounds.{Track, first_fit, from_on}
 use Rattle.delay_bounds.specs.Claim.{earliest, offsets_of}

@@ -6,7 +6,7 @@ use Rattle.std.proofs.lemmas.Option.{same_Some}
 use Rattle.wire_time.specs.Moment.{greatest_moment}
 use Rattle.wire_time.specs.Wire.{occupancy_of, sdu_of}
 use Rattle.wire_time.specs.declared.Frame.{Frame}
-use Rattle.list_config.specs.History.{Accepted, open_through}
+use Rattle.gates.specs.History.{Accepted, open_through}
 use Rattle.abstract_port.specs.declared.Command.{Command}
 use Rattle.abstract_port.specs.declared.Command.TheVariants.{Replace, Delete}
 use Rattle.abstract_port.specs.declared.Dropped.{Dropped}
@@ -21,10 +21,10 @@ use Rattle.abstract_port.specs.Laws.{starts_in}
 use Rattle.abstract_port.proofs.ArrivalLaws.{verdict_with}
 use Rattle.abstract_port.proofs.RunLaws.{clock_back, clock_on}
 use Rattle.abstract_port.proofs.StartsLaws.{IsUnmoved, next_start-unmoved, starts_from-unmoved}
-use Rattle.separation.specs.Separation.{IsKeptApart, is_class}
-use Rattle.separation.specs.Served.{IsFirst, frames_of, HaveCome, Waits, AreServed}
-use Rattle.separation.specs.Traffic.{Came, IsOnly, queued_as, queued_by, queued_in, starts_of_class, offered_as, offered_by, offered_in}
-use Rattle.separation.proofs.ServiceLaws.{Holds, takes, new_holds, verdict_class}
+use Rattle.abstract_port.specs.Separation.{IsKeptApart, is_class}
+use Rattle.abstract_port.specs.Served.{IsFirst, frames_of, HaveCome, Waits, AreServed}
+use Rattle.abstract_port.specs.Traffic.{Came, IsOnly, queued_as, queued_by, queued_in, starts_of_class, offered_as, offered_by, offered_in}
+use Rattle.abstract_port.proofs.ServiceLaws.{Holds, takes, new_holds, verdict_class}
 use Rattle.delay_bounds.specs.Claim.{AreComing, coming, earliest, flow_at}
 use Rattle.delay_bounds.specs.Bounds.{Track, from_on, step}
 use Rattle.delay_bounds.specs.Walk.{after, begun}

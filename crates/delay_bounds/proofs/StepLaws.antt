@@ -3,7 +3,7 @@ use Rattle.std.proofs.Common.{◌≡◌, ◌<◌, ◌≤◌, ℕ, zero, suc, ◌
 use Rattle.std.specs.Option.{option_map_or}
 use Rattle.std.proofs.lemmas.Bool.{cases_eq, leb-true, leb-false, false≢true}
 use Rattle.std.proofs.lemmas.Option.{same_Some}
-use Rattle.separation.specs.Traffic.{Came}
+use Rattle.abstract_port.specs.Traffic.{Came}
 use Rattle.delay_bounds.specs.Claim.{AreComing, coming, earlier, earliest, flow_at}
 use Rattle.delay_bounds.specs.Bounds.{Track, step, told}
 use Rattle.delay_bounds.specs.Walk.{after}

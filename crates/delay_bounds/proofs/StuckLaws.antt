@@ -4,10 +4,10 @@ use Rattle.std.proofs.lemmas.Bool.{cases_lt, leb-true, leb-false, ltb-false}
 use Rattle.std.proofs.lemmas.Option.{same_Some}
 use Rattle.wire_time.specs.Moment.{greatest_moment}
 use Rattle.wire_time.specs.declared.Frame.{Frame}
-use Rattle.gate_list.specs.Gate.{in_ps}
+use Rattle.gates.specs.Gate.{in_ps}
 use Rattle.abstract_port.specs.AbstractPort.{AbstractPort, new_port, queue_of}
-use Rattle.separation.specs.Traffic.{Came, offered_in}
-use Rattle.list_config.specs.History.{Accepted}
+use Rattle.abstract_port.specs.Traffic.{Came, offered_in}
+use Rattle.gates.specs.History.{Accepted}
 use Rattle.delay_bounds.specs.declared.Flow.{Flow}
 use Rattle.delay_bounds.specs.declared.Refused.{Refused}
 use Rattle.delay_bounds.specs.Bounds.{Track, from_on}

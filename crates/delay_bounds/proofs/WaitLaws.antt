@@ -4,15 +4,15 @@ use Rattle.std.proofs.lemmas.Bool.{cases_lt, leb-false, false≢true, both_ways}
 use Rattle.std.proofs.lemmas.Option.{same_Some}
 use Rattle.wire_time.specs.Wire.{occupancy_of}
 use Rattle.wire_time.specs.declared.Frame.{Frame}
-use Rattle.gate_list.specs.Gate.{in_ps}
-use Rattle.list_config.specs.History.{Accepted, open_through}
+use Rattle.gates.specs.Gate.{in_ps}
+use Rattle.gates.specs.History.{Accepted, open_through}
 use Rattle.abstract_port.specs.declared.Start.{Start}
 use Rattle.abstract_port.specs.AbstractPort.{new_port}
 use Rattle.abstract_port.specs.Answers.{answers_of}
 use Rattle.abstract_port.specs.Laws.{starts_in}
-use Rattle.separation.proofs.ServiceLaws.{served_law}
-use Rattle.separation.specs.Served.{IsFirst, AreServed}
-use Rattle.separation.specs.Traffic.{Came, queued_in, starts_of_class}
+use Rattle.abstract_port.proofs.ServiceLaws.{served_law}
+use Rattle.abstract_port.specs.Served.{IsFirst, AreServed}
+use Rattle.abstract_port.specs.Traffic.{Came, queued_in, starts_of_class}
 use Rattle.delay_bounds.proofs.GateLaws.{may_since, same_gates}
 use Rattle.delay_bounds.specs.Claim.{coming, AreComing, offsets_of, earliest, flow_at}
 use Rattle.delay_bounds.specs.Bounds.{Track, first_fit, from_on, step, told}

@@ -1,7 +1,7 @@
 -- What is answered of flows: their bounds, or why they have none.
 use Rattle.std.specs.Prelude.{◌+◌, ◌*◌, ◌≡◌, ◌<◌, ◌≤◌, ℕ, max, Bool, true, false, List, length, Option, Some, None, IsSome, Result, Ok, Err}
 use Rattle.wire_time.specs.Moment.{greatest_moment}
-use Rattle.gate_list.specs.Gate.{Plan, in_ps}
+use Rattle.gates.specs.Gate.{Plan, in_ps}
 use Rattle.delay_bounds.specs.Claim.{offsets_of, earliest, flow_at}
 use Rattle.delay_bounds.specs.Bounds.{AreBounds, Track, from_on, first_fit, told_by}
 use Rattle.delay_bounds.specs.ForEver.{counting, Recurs}

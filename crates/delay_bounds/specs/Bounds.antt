@@ -5,17 +5,17 @@
 -- times are in picoseconds; but for those of a run, moments count from the schedule's change moment (8.6.9).
 use Rattle.std.specs.Prelude.{◌≡◌, ◌<◌, ◌≤◌, ℕ, zero, suc, ◌+◌, ◌-◌, max, Bool, if◌then◌else◌, nat_lt, nat_le, List, [], ◌∷◌, ◌++◌, length, slice_set, Option, Some, None}
 use Rattle.std.specs.Option.{option_and_then, option_map}
-use Rattle.gate_list.specs.Open.{open_while}
+use Rattle.gates.specs.Open.{open_while}
 use Rattle.wire_time.specs.declared.TheConstants.{MIN_PS_PER_OCTET, MIN_MTU}
-use Rattle.gate_list.specs.Gate.{Plan, in_ps, mask_since}
-use Rattle.list_config.specs.History.{Accepted}
+use Rattle.gates.specs.Gate.{Plan, in_ps, mask_since}
+use Rattle.gates.specs.History.{Accepted}
 use Rattle.abstract_port.specs.declared.Start.{Start}
 use Rattle.abstract_port.specs.declared.Event.{Event}
 use Rattle.abstract_port.specs.AbstractPort.{new_port}
 use Rattle.abstract_port.specs.Answers.{answers_of}
 use Rattle.abstract_port.specs.Laws.{starts_in}
-use Rattle.separation.specs.Separation.{IsKeptApart}
-use Rattle.separation.specs.Traffic.{Came, IsOnly, queued_in, offered_in, starts_of_class}
+use Rattle.abstract_port.specs.Separation.{IsKeptApart}
+use Rattle.abstract_port.specs.Traffic.{Came, IsOnly, queued_in, offered_in, starts_of_class}
 use Rattle.delay_bounds.specs.Claim.{offsets_of, earliest, flow_at, coming, AreComing, bound_at}
 use Rattle.delay_bounds.specs.declared.Flow.{Flow}
 use Rattle.delay_bounds.specs.declared.Told.{Told}

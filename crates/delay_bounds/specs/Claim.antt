@@ -7,15 +7,15 @@ use Rattle.std.specs.Option.{option_map_or}
 use Rattle.wire_time.specs.Moment.{greatest_moment}
 use Rattle.wire_time.specs.Wire.{occupancy_of}
 use Rattle.wire_time.specs.declared.TheConstants.{MIN_PS_PER_OCTET, MIN_MTU}
-use Rattle.gate_list.specs.Gate.{Plan, IsSchedule}
-use Rattle.list_config.specs.History.{Accepted}
+use Rattle.gates.specs.Gate.{Plan, IsSchedule}
+use Rattle.gates.specs.History.{Accepted}
 use Rattle.abstract_port.specs.declared.Start.{Start}
 use Rattle.abstract_port.specs.declared.Event.{Event}
 use Rattle.abstract_port.specs.AbstractPort.{new_port}
 use Rattle.abstract_port.specs.Answers.{answers_of}
 use Rattle.abstract_port.specs.Laws.{starts_in}
-use Rattle.separation.specs.Separation.{IsKeptApart}
-use Rattle.separation.specs.Traffic.{Came, IsOnly, queued_in, offered_in, starts_of_class}
+use Rattle.abstract_port.specs.Separation.{IsKeptApart}
+use Rattle.abstract_port.specs.Traffic.{Came, IsOnly, queued_in, offered_in, starts_of_class}
 use Rattle.delay_bounds.specs.declared.Flow.{Flow}
 use Rattle.delay_bounds.specs.declared.Bound.{Bound}
 use Rattle.delay_bounds.specs.declared.Unbound.{Unbound}

@@ -1,6 +1,6 @@
 -- What repeats goes on for ever.
 use Rattle.std.specs.Prelude.{◌≡◌, ◌<◌, ℕ, ◌+◌, ◌*◌, max, Bool, List, map, Option, Some, None}
-use Rattle.gate_list.specs.Gate.{Plan, in_ps}
+use Rattle.gates.specs.Gate.{Plan, in_ps}
 use Rattle.delay_bounds.specs.Claim.{offsets_of, earliest}
 use Rattle.delay_bounds.specs.Bounds.{Track, from_on, told}
 use Rattle.delay_bounds.specs.Walk.{may_by, begun, after}

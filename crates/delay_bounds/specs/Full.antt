@@ -1,12 +1,12 @@
 -- The first frame that finds no room.
 use Rattle.std.specs.Prelude.{◌≡◌, ◌<◌, ◌≤◌, ℕ, ◌+◌, List, length, take, Some}
 use Rattle.wire_time.specs.declared.TheConstants.{MIN_PS_PER_OCTET, MIN_MTU}
-use Rattle.gate_list.specs.Gate.{Plan, in_ps}
-use Rattle.list_config.specs.History.{Accepted}
+use Rattle.gates.specs.Gate.{Plan, in_ps}
+use Rattle.gates.specs.History.{Accepted}
 use Rattle.abstract_port.specs.declared.Event.{Event}
 use Rattle.abstract_port.specs.AbstractPort.{new_port}
-use Rattle.separation.specs.Separation.{IsKeptApart}
-use Rattle.separation.specs.Traffic.{IsOnly, queued_in, offered_in}
+use Rattle.abstract_port.specs.Separation.{IsKeptApart}
+use Rattle.abstract_port.specs.Traffic.{IsOnly, queued_in, offered_in}
 use Rattle.delay_bounds.specs.Claim.{offsets_of, earliest, coming, AreComing}
 use Rattle.delay_bounds.specs.Bounds.{Track, from_on}
 use Rattle.delay_bounds.specs.Walk.{may_by, begun, after}

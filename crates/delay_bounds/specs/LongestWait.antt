@@ -2,7 +2,7 @@
 -- stays open for as long as it takes (IEEE Std 802.1Q-2018, 8.6.8.4), by the list that repeats (8.6.9).
 use Rattle.std.specs.Prelude.{◌≡◌, ◌<◌, ℕ, zero, suc, ◌-◌, max, Bool, false, Option, Some, None, option_map}
 use Rattle.std.specs.Option.{option_map_or}
-use Rattle.gate_list.specs.Gate.{IsSchedule, Plan, in_ps}
+use Rattle.gates.specs.Gate.{IsSchedule, Plan, in_ps}
 use Rattle.delay_bounds.specs.AnyMoment.{IsLongestWait}
 use Rattle.delay_bounds.specs.Bounds.{first_fit}
 use Rattle.delay_bounds.specs.Walk.{may_by}

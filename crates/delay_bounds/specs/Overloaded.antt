@@ -1,6 +1,6 @@
 -- Overload: the frames of flows need more time than the gates give to their class, so its queue is full at last, whatever its room.
 use Rattle.std.specs.Prelude.{◌≡◌, ◌<◌, ◌≤◌, ℕ, ◌+◌, ◌*◌, List, map, Some}
-use Rattle.gate_list.specs.Gate.{Plan, in_ps}
+use Rattle.gates.specs.Gate.{Plan, in_ps}
 use Rattle.delay_bounds.specs.Bounds.{AreBounds, Track}
 use Rattle.delay_bounds.specs.Claim.{IsFirstDropped, earliest, offsets_of}
 use Rattle.delay_bounds.specs.Walk.{after, begun, may_by}

@@ -1,15 +1,15 @@
 -- How long each frame of the flows waits, and that none is dropped.
 use Rattle.std.specs.Prelude.{◌≡◌, ◌<◌, ◌≤◌, ℕ, ◌+◌, List, [], ◌∷◌, Option, Some, IsSome}
 use Rattle.wire_time.specs.declared.TheConstants.{MIN_PS_PER_OCTET, MIN_MTU}
-use Rattle.gate_list.specs.Gate.{Plan, in_ps}
-use Rattle.list_config.specs.History.{Accepted}
+use Rattle.gates.specs.Gate.{Plan, in_ps}
+use Rattle.gates.specs.History.{Accepted}
 use Rattle.abstract_port.specs.declared.Start.{Start}
 use Rattle.abstract_port.specs.declared.Event.{Event}
 use Rattle.abstract_port.specs.AbstractPort.{new_port}
 use Rattle.abstract_port.specs.Answers.{answers_of}
 use Rattle.abstract_port.specs.Laws.{starts_in}
-use Rattle.separation.specs.Separation.{IsKeptApart}
-use Rattle.separation.specs.Traffic.{Came, IsOnly, queued_in, offered_in, starts_of_class}
+use Rattle.abstract_port.specs.Separation.{IsKeptApart}
+use Rattle.abstract_port.specs.Traffic.{Came, IsOnly, queued_in, offered_in, starts_of_class}
 use Rattle.delay_bounds.specs.Claim.{offsets_of, coming, AreComing}
 use Rattle.delay_bounds.specs.Bounds.{Track, step, told_by}
 use Rattle.delay_bounds.specs.Walk.{may_by, begun}

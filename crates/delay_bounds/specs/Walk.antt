@@ -1,8 +1,8 @@
 -- What contracts and other laws say of the walk over the frames of flows.
 use Rattle.std.specs.Prelude.{◌≡◌, ℕ, zero, suc, Bool, false, if◌then◌else◌, nat_lt, List, [], ◌∷◌, Option, Some, None}
 use Rattle.std.specs.Option.{option_and_then}
-use Rattle.gate_list.specs.Gate.{Plan, mask_since}
-use Rattle.gate_list.specs.Open.{open_while}
+use Rattle.gates.specs.Gate.{Plan, mask_since}
+use Rattle.gates.specs.Open.{open_while}
 use Rattle.delay_bounds.specs.declared.Flow.{Flow}
 use Rattle.delay_bounds.specs.declared.Told.{Told}
 use Rattle.delay_bounds.specs.Bounds.{Track, step, told_by}

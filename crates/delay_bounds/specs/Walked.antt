@@ -2,7 +2,7 @@
 use Rattle.std.specs.Prelude.{ℕ, ◌<◌, All, ◌+◌, ◌-◌, ◌%◌, ◌==◌, zero, suc, max, Bool, true, false, ◌&&◌, if◌then◌else◌, nat_lt, nat_le, List, [], ◌∷◌, length, map, Option, Some, None, is_some, Result, Ok, Err}
 use Rattle.std.specs.Option.{option_map_or}
 use Rattle.wire_time.specs.Moment.{greatest_moment}
-use Rattle.gate_list.specs.Gate.{Plan, IsSchedule, in_ps}
+use Rattle.gates.specs.Gate.{Plan, IsSchedule, in_ps}
 use Rattle.delay_bounds.specs.Claim.{IsFlow, earliest, flow_at, offsets_of}
 use Rattle.delay_bounds.specs.Bounds.{Track, arrives, first_fit}
 use Rattle.delay_bounds.specs.Backlog.{followed, no_backlog, taken_at, unended}

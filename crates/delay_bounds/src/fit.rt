@@ -2,13 +2,13 @@
 
 ghost use Rattle.std.specs.Prelude.{◌≡◌, ◌<◌, ◌≤◌, ◌+◌, Some, None, IfSome};
 ghost use Rattle.wire_time.specs.Moment.{greatest_moment};
-ghost use Rattle.gate_list.specs.Gate.{IsSchedule, in_ps};
-ghost use Rattle.list_position.specs.Position.{IsPlaced};
+ghost use Rattle.gates.specs.Gate.{IsSchedule, in_ps};
+ghost use Rattle.jumping.specs.Position.{IsPlaced};
 ghost use Rattle.delay_bounds.specs.Bounds.{first_fit};
 ghost use Rattle.delay_bounds.specs.Walk.{may_by};
 
-use gate_list::{Schedule, Visits};
-use list_position::{Need, Position};
+use gates::gate_list::{Schedule, Visits};
+use jumping::list_position::{Need, Position};
 use wire_time::CLASSES;
 
 /// The first moment from `from` on and less than a cycle later, both in picoseconds since the change moment, from which

@@ -2,15 +2,15 @@
 
 ghost use Rattle.std.specs.Prelude.{◌≡◌, ◌<◌, ◌≤◌, IsSome, None};
 ghost use Rattle.wire_time.specs.Moment.{greatest_moment};
-ghost use Rattle.gate_list.specs.Gate.{IsSchedule, in_ps};
-ghost use Rattle.list_position.specs.Position.{IsPlaced};
+ghost use Rattle.gates.specs.Gate.{IsSchedule, in_ps};
+ghost use Rattle.jumping.specs.Position.{IsPlaced};
 ghost use Rattle.delay_bounds.specs.Bounds.{first_fit};
 ghost use Rattle.delay_bounds.specs.LongestWait.{longest_of, longest_wait, wait_at};
 ghost use Rattle.delay_bounds.specs.Walk.{may_by};
 
 use crate::fit::fit;
-use gate_list::{Schedule, Visits};
-use list_position::Position;
+use gates::gate_list::{Schedule, Visits};
+use jumping::list_position::Position;
 use wire_time::CLASSES;
 
 /// How long a frame waits that comes at a moment and needs the wire for so long; 0 where no window is so long.

@@ -2,8 +2,8 @@
 
 ghost use Rattle.std.specs.Prelude.{◌≡◌, ◌<◌, ◌≤◌, ◌↔◌, ◌+◌, ◌^◌, Some, None, Err, IfErr, IfOk, MatchResult, length, max, nat_le};
 ghost use Rattle.wire_time.specs.Moment.{greatest_moment};
-ghost use Rattle.gate_list.specs.Gate.{IsSchedule, in_ps};
-ghost use Rattle.list_position.specs.Position.{IsPlaced};
+ghost use Rattle.gates.specs.Gate.{IsSchedule, in_ps};
+ghost use Rattle.jumping.specs.Position.{IsPlaced};
 ghost use Rattle.delay_bounds.specs.Backlog.{taken_at};
 ghost use Rattle.delay_bounds.specs.Line.{before_any, when_come};
 ghost use Rattle.delay_bounds.specs.Claim.{earliest, offsets_of, IsFlow};
@@ -16,8 +16,8 @@ use crate::fit::fit;
 use crate::moments::{come_later, copy_ring, drop_before, earliest, is_later, start_later};
 use crate::{Flow, Told};
 use circular_buffer::HeapCircularBuffer;
-use gate_list::Schedule;
-use list_position::Position;
+use gates::gate_list::Schedule;
+use jumping::list_position::Position;
 use std::alloc::{AllocError, Allocator};
 use std::marker::Model;
 use wire_time::{CLASSES, MAX_MOMENT};

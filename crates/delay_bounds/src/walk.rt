@@ -1,7 +1,7 @@
 //! The bounds of flows, by a walk over their frames until its state comes again.
 
 ghost use Rattle.std.specs.Prelude.{◌+◌, ◌*◌, ◌≡◌, ◌<◌, ◌-◌, ◌⊎◌, All, Err, IfErr, IfOk, MatchResult, Ok, length};
-ghost use Rattle.gate_list.specs.Gate.{IsSchedule};
+ghost use Rattle.gates.specs.Gate.{IsSchedule};
 ghost use Rattle.delay_bounds.specs.Backlog.{unended};
 ghost use Rattle.delay_bounds.specs.Bounded.{unbound_by, IsMost, IsUnbound};
 ghost use Rattle.delay_bounds.specs.Claim.{flow_at, IsFlow};
@@ -16,8 +16,8 @@ use crate::extremes::{all_unseen, note};
 use crate::line::{Line, Stop};
 use crate::look::{Backlog, Look, Mark, followed, last_offset, look_back, look_from, no_backlog};
 use crate::{Bound, Bounded, Flow, FlowFrame, Refused, Unbound};
-use gate_list::{Schedule, Visits};
-use list_position::Position;
+use gates::gate_list::{Schedule, Visits};
+use jumping::list_position::Position;
 use std::alloc::Allocator;
 use wire_time::{CLASSES, MAX_MOMENT};
 

@@ -4,12 +4,12 @@ use Rattle.std.specs.Prelude.{IfSome}
 use Rattle.std.specs.Io.KnownBytes.{Appends, Keeps}
 use Rattle.std.proofs.KnownBytes.{Keeps-refl}
 use Rattle.abstract_port.specs.Answers.{port_after}
-use Rattle.octet_writer.specs.Writes.{AppendsFront, FallsShort}
-use Rattle.octet_writer.proofs.Fronts.{Appends-nil, front_of_short}
+use Rattle.text.specs.Writes.{AppendsFront, FallsShort}
+use Rattle.text.proofs.Fronts.{Appends-nil, front_of_short}
 use Rattle.picture.specs.Drawn.{Drawing, new_drawing, no_classes}
 use Rattle.drawing.specs.Words.{AbstractPort, Command, Script, Fault, IsReader, MOST_SHAPES, TcFault, Reading, reading_of, BadLine, Course, BandsOf, ForSomeBands, IsDrawEnding, IsDrawn, IsDrawnFrom, WhereDrawn, WhereOk, Takes, outcome_drawn, picture_after, picture_of, settled}
 unfoldable use Rattle.drawing.specs.Words.{bands_to}
-use Rattle.line_reader.specs.Script.{script_of}
+use Rattle.text.specs.Script.{script_of}
 use Rattle.job.specs.Outcome.{Outcome, RunsOut}
 use Rattle.job.specs.RunEnd.{IsEndOf, IsOrFails}
 use Rattle.job.specs.declared.fault.Fault.TheVariants as Faults

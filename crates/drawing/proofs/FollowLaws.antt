@@ -5,7 +5,7 @@ use Rattle.std.proofs.lemmas.Bool.{true≢false}
 use Rattle.drawing.specs.Words.{AbstractPort, Command, TcFault, Script, Request, request_of, Reading, reading_of, ScriptFault, Course, TakesLine, seen_by}
 use Rattle.abstract_port.specs.declared.Event.{Event}
 use Rattle.abstract_port.specs.declared.Event.TheVariants.{Arrive, Install, Clock, Query, Count}
-use Rattle.line_reader.specs.LineReader.{Advances}
+use Rattle.text.specs.LineReader.{Advances}
 use Rattle.script.specs.Outcome.{with_line}
 use Rattle.script.specs.Setup.{Setup}
 use Rattle.picture.specs.Drawn.{Drawing}

@@ -1,10 +1,10 @@
-pub mod TakenLaws
+pub mod AxisLaws
 pub mod CountLaws
-pub mod EndLaws
 pub mod DigitLaws
-pub mod ShownLaws
-pub mod WaitLaws
-pub mod TextLaws
+pub mod EndLaws
 pub mod FitLaws
 pub mod FollowLaws
-pub mod AxisLaws
+pub mod ShownLaws
+pub mod TakenLaws
+pub mod TextLaws
+pub mod WaitLaws

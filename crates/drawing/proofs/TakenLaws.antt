@@ -6,11 +6,11 @@ use Rattle.abstract_port.specs.AbstractPort.{class_for}
 use Rattle.abstract_port.specs.Answers.{port_after}
 use Rattle.abstract_port.specs.declared.Event.{Event}
 use Rattle.abstract_port.specs.declared.Event.TheVariants.{Arrive, Install, Clock, Query, Count}
-use Rattle.separation.specs.Settled.{IsSettling}
-use Rattle.line_reader.specs.Script.{Line}
-use Rattle.line_reader.specs.LineReader.{Advances}
-use Rattle.line_reader.specs.declared.lines.LineFault.{LineFault}
-use Rattle.line_reader.specs.declared.lines.LineFault.TheVariants as LineFaults
+use Rattle.abstract_port.specs.Settled.{IsSettling}
+use Rattle.text.specs.Script.{Line}
+use Rattle.text.specs.LineReader.{Advances}
+use Rattle.text.specs.declared.line_reader.lines.LineFault.{LineFault}
+use Rattle.text.specs.declared.line_reader.lines.LineFault.TheVariants as LineFaults
 use Rattle.script.specs.Requests.{NoCommand}
 use Rattle.script.specs.Responses.{events_of, responses_to}
 use Rattle.job.specs.Lines.{fault_of_line}

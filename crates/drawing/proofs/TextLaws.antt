@@ -4,7 +4,7 @@ use Rattle.std.proofs.lemmas.Bool.{cases_lt, le-leb, lt-leb}
 use Rattle.std.proofs.Math.Nat.{le-mul_of_pos_right}
 use Rattle.picture.specs.Drawn.{Drawing}
 use Rattle.picture.specs.Ticks.{IsTickStep, tick}
-use Rattle.octet_writer.specs.Writes.{Sent}
+use Rattle.text.specs.Writes.{Sent}
 use Rattle.drawing.specs.Axis.{step_of}
 unfoldable use Rattle.drawing.specs.Axis.{each, step_from}
 use Rattle.drawing.specs.Picture.{is_mixed}

@@ -1,6 +1,6 @@
 -- When the frames that wait have come.
 use Rattle.std.specs.Prelude.{ℕ, nat_lt, List, [], ◌∷◌, ◌++◌, length, drop, slice_get, slice_set, slice_index_or, Option, None, if◌then◌else◌}
-use Rattle.per_class.specs.Eight.{eight}
+use Rattle.abstract_port.specs.Eight.{eight}
 
 -- the arrival moments of the frames of a class that wait, the first to go first, in picoseconds; and for how many there is room
 pub record Waiting : Type 0 where

@@ -1,8 +1,8 @@
 -- What the values of a picture's options say.
 use Rattle.std.specs.Prelude.{ℕ, ◌+◌, ◌-◌, ◌^◌, min, nat_lt, nat_le, Bool, ◌&&◌, not, List, Option, Some, None, is_some, unwrap_or, Result, Ok, Err, option_and_then, option_map, if◌then◌else◌}
 use Rattle.wire_time.specs.Moment.{greatest_moment}
-use Rattle.words.specs.Numbers.{number_in}
-use Rattle.times.specs.Times.{moment_in}
+use Rattle.text.specs.Numbers.{number_in}
+use Rattle.text.specs.Times.{moment_in}
 use Rattle.script.specs.declared.settings.BadValue.{BadValue}
 use Rattle.script.specs.declared.settings.BadValue.TheVariants as Values
 use Rattle.drawing.specs.Given.{DrawWords}

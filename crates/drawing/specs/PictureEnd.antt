@@ -5,13 +5,13 @@ use Rattle.abstract_port.specs.AbstractPort.{AbstractPort, new_port, settled}
 use Rattle.abstract_port.specs.Answers.{port_after}
 use Rattle.abstract_port.specs.declared.Command.{Command}
 use Rattle.abstract_port.specs.declared.Event.TheVariants.{Clock}
-use Rattle.line_reader.specs.Script.{script_of}
-use Rattle.octet_writer.specs.Writes.{FallsShort}
+use Rattle.text.specs.Script.{script_of}
+use Rattle.text.specs.Writes.{FallsShort}
 use Rattle.picture.specs.Drawn.{Drawing}
 use Rattle.picture.specs.Pane.{Pane}
 use Rattle.picture.specs.declared.TheConstants.{MOST_SHAPES}
-use Rattle.tc_reader.specs.Reader.{IsReader}
-use Rattle.tc_reader.specs.declared.fault.TcFault.{TcFault}
+use Rattle.port_text.specs.Reader.{IsReader}
+use Rattle.port_text.specs.declared.tc_reader.fault.TcFault.{TcFault}
 use Rattle.wire_time.specs.Wire.{lead_of}
 use Rattle.job.specs.Outcome.{Outcome, RunsOut}
 use Rattle.job.specs.RunEnd.{IsLetOut, IsRunEnding}

@@ -5,10 +5,10 @@ pub use Rattle.abstract_port.specs.Answers.{answers_to}
 pub use Rattle.abstract_port.specs.Asked.{answers_left}
 pub use Rattle.abstract_port.specs.Sound.{IsSoundPort}
 pub use Rattle.abstract_port.specs.declared.Command.{Command}
-pub use Rattle.line_reader.specs.LineReader.{script_left}
-pub use Rattle.line_reader.specs.Script.{Script}
-pub use Rattle.tc_reader.specs.Reader.{IsReader}
-pub use Rattle.tc_reader.specs.declared.fault.TcFault.{TcFault}
+pub use Rattle.text.specs.LineReader.{script_left}
+pub use Rattle.text.specs.Script.{Script}
+pub use Rattle.port_text.specs.Reader.{IsReader}
+pub use Rattle.port_text.specs.declared.tc_reader.fault.TcFault.{TcFault}
 pub use Rattle.job.specs.declared.fault.Fault.{Fault}
 pub use Rattle.picture.specs.Lanes.{Filled, joined_at, no_shapes}
 pub use Rattle.picture.specs.Viewports.{pixel_of, x_in}

@@ -3,8 +3,8 @@
 ghost use Rattle.std.specs.Prelude.{◌≡◌, ◌<◌, IfOk, Some, length, slice_get, slice_set};
 ghost use Rattle.drawing.specs.Words.{none_wait, none_waits, waiting_in, with_arrival, without_first};
 
+use abstract_port::per_class::{PerClass, classes_of};
 use circular_buffer::HeapCircularBuffer;
-use per_class::{PerClass, classes_of};
 use std::alloc::{AllocError, Allocator};
 use std::marker::Model;
 use wire_time::CLASSES;

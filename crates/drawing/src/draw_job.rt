@@ -1,16 +1,16 @@
 //! The program's job: a script becomes a picture.
 
 ghost use Rattle.std.specs.Prelude.{◌≡◌, IfErr};
-ghost use Rattle.octet_writer.specs.Buffered.{writer_contents};
+ghost use Rattle.text.specs.Buffered.{writer_contents};
 ghost use Rattle.drawing.specs.Words.{settings_given, words_of_values, greatest_moment, IsDrawEnding, words_of_draws, options_of};
 
 use crate::draw_run::draw;
 use crate::options::{DrawValues, options_given};
 use job::{Ended, Errors, end_run};
-use octet_writer::BufWriter;
 use script::{Values, Watch, end_with_value, settings_given};
 use std::alloc::{Allocator, Global};
 use std::io::{Read, Write};
+use text::octet_writer::BufWriter;
 use wire_time::MAX_MOMENT;
 
 /// Draws the run of the script that `reader` gives, by these values, through `answers`, with the text of a fault on

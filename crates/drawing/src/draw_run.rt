@@ -1,14 +1,14 @@
 //! Runs a script, and draws what happens.
 
 ghost use Rattle.std.specs.Prelude.{◌≡◌, ◌≤◌, ◌+◌, ◌*◌, ◌↔◌, ℕ, IfOk, IfSome, IsTrue, List, MatchOption, Ok, OnOk, Result, Some, true};
-ghost use Rattle.words.specs.Words.{words_of};
+ghost use Rattle.text.specs.Words.{words_of};
 ghost use Rattle.script.specs.Answered.{HasFewVisits};
 ghost use Rattle.script.specs.Responses.{responses_to};
 ghost use Rattle.wire_time.specs.Moment.{greatest_lead};
 ghost use Rattle.drawing.specs.Words.{installs, settled, answers_to, IsSoundPort, greatest_moment, Command, script_left, IsReader, TcFault, reading_of, request_of, tc_request, seen_at, ForSomeBands, IsDrawnFrom, MOST_SHAPES, bands_to, course_on, last_moment, picture_after, port_on, Takes, TakesLine, seen_by};
-ghost use Rattle.line_reader.specs.Script.{script_of};
+ghost use Rattle.text.specs.Script.{script_of};
 ghost use Rattle.abstract_port.specs.AbstractPort.{new_port};
-ghost use Rattle.octet_writer.specs.Writes.{Writes};
+ghost use Rattle.text.specs.Writes.{Writes};
 ghost use Rattle.wire_time.specs.Wire.{lead_of};
 ghost use Rattle.drawing.specs.Followed.{BandsAfter, BandsAtEnd, BandsBy, BandsOfLine, BandsOn, BandsShown, EndBands, FollowedAndEnded, IsFollowed, first_bands, MayBegin, MayGo, Shows, given, given_to};
 ghost use Rattle.drawing.specs.declared.options.DrawOptions.{DrawOptions};
@@ -25,16 +25,16 @@ use crate::scope::Scope;
 use crate::svg::put_picture;
 use crate::view::View;
 use crate::view_fit::fit;
+use abstract_port::separation::settling;
 use abstract_port::{Answer, Command, Event, Refused};
-use answer_text::WriteFault;
-use line_reader::LineReader;
 use picture::{Bands, Viewport, cycle_of};
+use port_text::answer_text::WriteFault;
 use script::{
     BadLine, Failure, RunFault, RunningPort, Said, ScriptFault, Settings, Watch, read_line, read_tc,
 };
-use separation::settling;
 use std::alloc::{AllocError, Allocator, Global};
 use std::io::{Read, Write};
+use text::line_reader::LineReader;
 use wire_time::{MAX_MOMENT, Rate, lead};
 
 /// The class of a frame that comes.

@@ -1,12 +1,12 @@
 //! The marks of a picture: bands, frames, waits, drops and changes.
 
 ghost use Rattle.std.specs.Prelude.{◌≡◌, ◌≤◌, ◌<◌, ◌+◌, ◌*◌, IfOk, decimal, length, nat_le};
-ghost use Rattle.octet_writer.specs.Writes.{Writes};
+ghost use Rattle.text.specs.Writes.{Writes};
 ghost use Rattle.drawing.specs.Marks.{arrival_text, bar_text, bars_text, change_lines, change_name, change_number, change_text, changes_text, cross_text, drop_text, drops_text, free_after, grey_after, grey_before, grey_by, grey_over, grey_text, greys_text, has_grey, id_text, is_light, IsInRow, label_text, last_change, light_text, lights_text, line_text, more_grey, no_grey, number_length, number_text, point_text, rect_text, second_cross, wait_line, wait_text, waits_text};
 
 use crate::page::{BOTTOM, CLASS_TOP, LANE_HEIGHT, LEFT, MAX_WIDTH, Page, Place};
-use answer_text::{Part, WriteFault, put, put_parts};
 use picture::Shape;
+use port_text::answer_text::{Part, WriteFault, put, put_parts};
 use std::io::Write;
 
 /// How times look at which a class is open and closed.

@@ -8,9 +8,9 @@ use crate::scope::Scope;
 use crate::view::View;
 use picture::Viewport;
 use script::BadValue;
-use times::moment;
+use text::times::moment;
+use text::words::number;
 use wire_time::MAX_MOMENT;
-use words::number;
 
 /// The width of a picture where none is given, in pixels.
 pub(crate) const WIDTH: u32 = 1200;

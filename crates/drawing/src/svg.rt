@@ -1,7 +1,7 @@
 //! The picture as SVG: its head, its axis, its lanes and its legend.
 
 ghost use Rattle.std.specs.Prelude.{◌≡◌, ◌<◌, ◌≤◌, ◌+◌, ◌*◌};
-ghost use Rattle.octet_writer.specs.Writes.{Writes};
+ghost use Rattle.text.specs.Writes.{Writes};
 ghost use Rattle.drawing.specs.Words.{greatest_moment};
 ghost use Rattle.drawing.specs.Axis.{axis_step, axis_text, counted, first_tick, last_tick, origin_name, origin_text, roomy_step, step_for, tick_at, tick_name, tick_text, ticks_text, two_or};
 ghost use Rattle.drawing.specs.Picture.{all_bands, class_bands, class_name, class_names, foot_text, ground_text, has_mixed, head_text, height_of, is_mixed, lane_text, lanes_text, legend, legend_mark, legend_path, legend_rect, legend_text, marks_text, mixed_legend, name_text, names_text, picture_text, size_text, speed_text, style_text, title_text, wire_name};
@@ -15,8 +15,8 @@ use crate::page::{
     WIRE, lane_top,
 };
 use crate::shapes::Shapes;
-use answer_text::{Part, WriteFault, put, put_parts};
 use picture::{Bands, Unit, tick_step, unit_of};
+use port_text::answer_text::{Part, WriteFault, put, put_parts};
 use std::alloc::Allocator;
 use std::io::Write;
 

@@ -1,10 +1,10 @@
 -- The numbers of reasons: those of `enum taprio_reason` of bindings/c/taprio.h.
 use Rattle.std.specs.Prelude.{ℕ}
-use Rattle.class_map.specs.declared.MapFault.TheVariants as maps
-use Rattle.class_map.specs.declared.QueueFault.TheVariants as queues
-use Rattle.gate_list.specs.declared.GateFault.TheVariants as gates
-use Rattle.gate_list.specs.declared.PlanFault.{PlanFault}
-use Rattle.gate_list.specs.declared.PlanFault.TheVariants as plans
+use Rattle.abstract_port.specs.declared.class_map.MapFault.TheVariants as maps
+use Rattle.abstract_port.specs.declared.class_map.QueueFault.TheVariants as queues
+use Rattle.gates.specs.declared.gate_list.GateFault.TheVariants as gates
+use Rattle.gates.specs.declared.gate_list.PlanFault.{PlanFault}
+use Rattle.gates.specs.declared.gate_list.PlanFault.TheVariants as plans
 use Rattle.abstract_port.specs.declared.Dropped.{Dropped}
 use Rattle.abstract_port.specs.declared.Dropped.TheVariants as drops
 use Rattle.driven_port.specs.declared.taken.ScheduleFault.{ScheduleFault}

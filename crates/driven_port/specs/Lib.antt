@@ -1,6 +1,6 @@
-pub mod Opened
-pub mod Taken
 pub mod Codes
-pub mod Told
+pub mod Opened
 pub mod Slots
+pub mod Taken
+pub mod Told
 pub use Rattle.abstract_port.specs.AbstractPort

@@ -1,14 +1,14 @@
 -- What structs of a fixed layout say: a moment, a frame, a schedule (IEEE Std 802.1Q-2018, 12.29.1).
 use Rattle.std.specs.Prelude.{ℕ, ◌+◌, ◌*◌, ◌^◌, ◌==◌, nat_lt, if◌then◌else◌, List, map, take, Option, Some, None, Result, Ok, Err}
 use Rattle.wire_time.specs.declared.Frame.{Frame}
-use Rattle.class_map.specs.declared.ClassMap.{ClassMap}
-use Rattle.class_map.specs.declared.Queues.{Queues}
-use Rattle.class_map.specs.Map.{map_of}
-use Rattle.class_map.specs.Ranges.{queues_of}
-use Rattle.gate_list.specs.Gate.{gate_fault, ok_unless}
-use Rattle.gate_list.specs.declared.Entry.{Entry}
-use Rattle.gate_list.specs.declared.GateFault.TheVariants.{TooManyEntries}
-use Rattle.gate_list.specs.declared.GateList.{GateList}
+use Rattle.abstract_port.specs.declared.class_map.ClassMap.{ClassMap}
+use Rattle.abstract_port.specs.declared.class_map.Queues.{Queues}
+use Rattle.abstract_port.specs.Map.{map_of}
+use Rattle.abstract_port.specs.Ranges.{queues_of}
+use Rattle.gates.specs.Gate.{gate_fault, ok_unless}
+use Rattle.gates.specs.declared.gate_list.Entry.{Entry}
+use Rattle.gates.specs.declared.gate_list.GateFault.TheVariants.{TooManyEntries}
+use Rattle.gates.specs.declared.gate_list.GateList.{GateList}
 use Rattle.abstract_port.specs.declared.Command.{Command}
 use Rattle.abstract_port.specs.declared.Command.TheVariants.{Replace}
 use Rattle.driven_port.specs.declared.taken.ScheduleFault.{ScheduleFault}

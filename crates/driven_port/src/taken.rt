@@ -4,9 +4,9 @@ ghost use Rattle.std.specs.Prelude.{◌≡◌};
 ghost use Rattle.driven_port.specs.Taken.{all_entries, command_of, frame_of, limits_of, list_from, list_of, map_of_classes, moment_of, queues_of_classes};
 
 use crate::values::{CFrame, CSchedule};
+use abstract_port::class_map::{ClassMap, MapFault, QueueFault, Queues};
 use abstract_port::{Change, Command};
-use class_map::{ClassMap, MapFault, QueueFault, Queues};
-use gate_list::{Entry, GateFault, GateList};
+use gates::gate_list::{Entry, GateFault, GateList};
 use wire_time::{CLASSES, Frame};
 
 /// Why a schedule is none.

@@ -7,9 +7,9 @@ ghost use Rattle.driven_port.specs.Told.{answer, arrival_told, command_told, cou
 
 use crate::taken::ScheduleFault;
 use crate::values::{CAnswer, CCounters, CReport};
+use abstract_port::class_map::{MapFault, QueueFault};
 use abstract_port::{Counters, Dropped, Refused, Report, Start};
-use class_map::{MapFault, QueueFault};
-use gate_list::{GateFault, PlanFault};
+use gates::gate_list::{GateFault, PlanFault};
 
 /// 2^64.
 const TWO_TO_64: u128 = 0x1_0000_0000_0000_0000;

@@ -7,7 +7,7 @@ use Rattle.abstract_port.specs.declared.Refused.{Refused}
 use Rattle.abstract_port.proofs.RunLaws.{IsTimely, same-event, timely-settled, timely-sound}
 use Rattle.job.specs.declared.fault.Fault.TheVariants as Faults
 use Rattle.job.proofs.LineLaws.{done}
-use Rattle.line_reader.specs.Script.{Line}
+use Rattle.text.specs.Script.{Line}
 use Rattle.script.specs.Alerts.{Alert, AlertedFront, alerts_of, refused_alert}
 use Rattle.frame_table.specs.Alerts.{judged_of}
 use Rattle.script.specs.Outcome.{asked_with, with_line}

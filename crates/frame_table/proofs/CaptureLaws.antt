@@ -1,9 +1,9 @@
 -- A run on a script and a capture, from what its parts leave.
 use Rattle.std.proofs.Common.{◌≡◌, ℕ, List, length, false, true, Option, Some, None, Result, Ok, Err, refl, sym, ap, ◌∙◌, subst, ◌++◌, ◌∷◌, append_assoc, []}
-use Rattle.octet_writer.proofs.Fronts.{Appends-nil, sent_none}
+use Rattle.text.proofs.Fronts.{Appends-nil, sent_none}
 use Rattle.capture.specs.FileHeader.{format_of}
 use Rattle.job.specs.declared.fault.Fault.TheVariants as Faults
-use Rattle.line_reader.specs.Script.{script_of}
+use Rattle.text.specs.Script.{script_of}
 use Rattle.replay.specs.Lines as Beside
 use Rattle.replay.specs.Outcome.{IsOpenFault}
 use Rattle.replay.specs.WholeScript.{IsScriptFault}

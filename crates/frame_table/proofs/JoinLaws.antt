@@ -4,8 +4,8 @@ use Rattle.std.specs.Prelude.{All, IfSome}
 use Rattle.wire_time.specs.Moment.{greatest_moment}
 use Rattle.wire_time.specs.Wire.{sdu_of}
 use Rattle.wire_time.specs.declared.Frame.{Frame}
-use Rattle.class_map.specs.declared.ClassMap.{ClassMap}
-use Rattle.class_map.specs.declared.Queues.{Queues}
+use Rattle.abstract_port.specs.declared.class_map.ClassMap.{ClassMap}
+use Rattle.abstract_port.specs.declared.class_map.Queues.{Queues}
 use Rattle.abstract_port.specs.AbstractPort.{AbstractPort, after_arrival, after_command, class_for, default_class, drop_in, installs_by, limit_of, new_port, next_start, plain_queues, queue_of, refusal, verdict, verdict_in, waiting}
 use Rattle.abstract_port.specs.Answers.{answers_to}
 use Rattle.abstract_port.specs.declared.Command.{Command}

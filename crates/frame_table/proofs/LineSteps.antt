@@ -3,9 +3,9 @@ use Rattle.std.proofs.Common.{◌≡◌, ℕ, List, [], ◌∷◌, ◌++◌, Opt
 use Rattle.std.specs.Prelude.{IfSome}
 use Rattle.std.specs.Io.KnownBytes.{Appends, Keeps}
 use Rattle.abstract_port.specs.AbstractPort.{class_for, verdict}
-use Rattle.separation.specs.Settled.{IsSettling}
-use Rattle.octet_writer.proofs.Fronts.{Appends-nil}
-use Rattle.line_reader.specs.Script.{Line}
+use Rattle.abstract_port.specs.Settled.{IsSettling}
+use Rattle.text.proofs.Fronts.{Appends-nil}
+use Rattle.text.specs.Script.{Line}
 use Rattle.job.specs.declared.fault.Fault.TheVariants as Faults
 use Rattle.job.proofs.LineLaws as Lines
 use Rattle.job.proofs.LineLaws.{behind, done}

@@ -3,23 +3,23 @@ use Rattle.std.proofs.Common.{◌≡◌, ◌<◌, ◌≤◌, ℕ, ◌-◌, ◌||
 use Rattle.std.specs.Prelude.{All, IfSome, MatchResult, nat_le, option_map, replicate, unwrap_or}
 use Rattle.std.specs.List.{AllByRecursion, list_any}
 use Rattle.std.proofs.lemmas.List.Elements.{All-append, All-from_recursion, All-replicate}
-use Rattle.class_map.specs.Map.{filled, map_of, map_unless}
-use Rattle.class_map.specs.declared.ClassMap.{ClassMap}
-use Rattle.class_map.specs.declared.MapFault.{MapFault}
-use Rattle.class_map.specs.declared.MapFault.TheVariants.{BadClassCount, TooManyPriorities, ClassOutOfRange}
-use Rattle.class_map.specs.declared.Queues.{Queues}
+use Rattle.abstract_port.specs.Map.{filled, map_of, map_unless}
+use Rattle.abstract_port.specs.declared.class_map.ClassMap.{ClassMap}
+use Rattle.abstract_port.specs.declared.class_map.MapFault.{MapFault}
+use Rattle.abstract_port.specs.declared.class_map.MapFault.TheVariants.{BadClassCount, TooManyPriorities, ClassOutOfRange}
+use Rattle.abstract_port.specs.declared.class_map.Queues.{Queues}
 use Rattle.abstract_port.specs.declared.Change.{Change}
 use Rattle.abstract_port.specs.declared.Command.{Command}
 use Rattle.abstract_port.specs.declared.Command.TheVariants.{Replace, Delete}
-use Rattle.gate_list.specs.declared.GateList.{GateList}
-use Rattle.tc_reader.specs.Ends.{change_given, classes_of, eight_limits, in_line, list_given, ranges_of}
-use Rattle.tc_reader.specs.Grammar.{IsCommand}
-use Rattle.tc_reader.specs.Lines.{HasFault}
-use Rattle.tc_reader.specs.Options.{Options, ◌>>=◌}
-use Rattle.tc_reader.specs.Reader.{IsReader}
-use Rattle.tc_reader.specs.Reads.{given_by}
-use Rattle.tc_reader.specs.declared.fault.TcFault.{TcFault}
-use Rattle.tc_reader.specs.declared.fault.TcFault.TheVariants as faults
+use Rattle.gates.specs.declared.gate_list.GateList.{GateList}
+use Rattle.port_text.specs.Ends.{change_given, classes_of, eight_limits, in_line, list_given, ranges_of}
+use Rattle.port_text.specs.Grammar.{IsCommand}
+use Rattle.port_text.specs.TcLines.{HasFault}
+use Rattle.port_text.specs.Options.{Options, ◌>>=◌}
+use Rattle.port_text.specs.Reader.{IsReader}
+use Rattle.port_text.specs.Reads.{given_by}
+use Rattle.port_text.specs.declared.tc_reader.fault.TcFault.{TcFault}
+use Rattle.port_text.specs.declared.tc_reader.fault.TcFault.TheVariants as faults
 use Rattle.frame_table.specs.Once.{IsMapped}
 
 abbrev IsWithin : ClassMap → Type 0

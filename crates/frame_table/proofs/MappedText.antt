@@ -3,14 +3,14 @@ use Rattle.std.proofs.Common.{ℕ, ◌^◌, ◌-◌, Bool, true, false, cond, lt
 use Rattle.std.specs.Prelude.{codes}
 use Rattle.std.specs.Str.{bytes_eq}
 use Rattle.wire_time.specs.Moment.{greatest_moment}
-use Rattle.words.specs.Words.{words_of}
-use Rattle.words.specs.Numbers.{number_in}
-use Rattle.line_reader.specs.Script.{Script, End, Broken, Line, script_of}
+use Rattle.text.specs.Words.{words_of}
+use Rattle.text.specs.Numbers.{number_in}
+use Rattle.text.specs.Script.{Script, End, Broken, Line, script_of}
 use Rattle.abstract_port.specs.declared.Command.{Command}
 use Rattle.abstract_port.specs.declared.Event.{Event}
 use Rattle.abstract_port.specs.declared.Event.TheVariants.{Clock}
-use Rattle.tc_reader.specs.Reader.{IsReader}
-use Rattle.tc_reader.specs.declared.fault.TcFault.{TcFault}
+use Rattle.port_text.specs.Reader.{IsReader}
+use Rattle.port_text.specs.declared.tc_reader.fault.TcFault.{TcFault}
 use Rattle.script.specs.Outcome.{Reading, asked_in, asked_with, clock_after, reading_of, with_line}
 use Rattle.script.specs.Requests.{Asks, NoCommand, Request, clock_event, clock_with, count_event, count_with, frame_event, frame_in_words, frame_with, is_comment, query_event, request_of, request_said, said, said_in, said_in_words, tc_request}
 use Rattle.script.specs.Responses.{events_of}

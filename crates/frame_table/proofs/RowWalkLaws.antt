@@ -15,10 +15,10 @@ use Rattle.job.specs.Halts.{fault_of_halt, halted}
 use Rattle.job.specs.declared.fault.Fault.TheVariants as Faults
 use Rattle.job.specs.declared.halt.Halt.{Halt}
 use Rattle.job.specs.declared.halt.Halt.TheVariants as Halts
-use Rattle.octet_writer.specs.Writes.{AppendsFront}
-use Rattle.octet_writer.specs.declared.WriteFault.{WriteFault}
-use Rattle.octet_writer.proofs.Fronts.{sent_all, sent_more, sent_none}
-use Rattle.separation.specs.Settled.{IsSettling}
+use Rattle.text.specs.Writes.{AppendsFront}
+use Rattle.text.specs.declared.octet_writer.WriteFault.{WriteFault}
+use Rattle.text.proofs.Fronts.{sent_all, sent_more, sent_none}
+use Rattle.abstract_port.specs.Settled.{IsSettling}
 use Rattle.script.specs.Outcome.{clock_after}
 use Rattle.script.specs.Told.{Came, Given, Hearing, Otherwise, Tells, Told, told_answers, told_of, told_to}
 use Rattle.script.specs.Walked.{PutsEnd, Walked}

@@ -2,8 +2,8 @@
 use Rattle.std.proofs.Common.{◌≡◌, ℕ, List, [], ◌++◌, Option, Some, None, Result, Ok, Err, refl, sym, ap, ◌∙◌, append_assoc, append-nil, subst}
 use Rattle.std.specs.Prelude.{IfSome}
 use Rattle.std.specs.Io.KnownBytes.{Appends, Keeps}
-use Rattle.octet_writer.specs.Writes.{AppendsFront}
-use Rattle.octet_writer.proofs.Fronts.{Appends-append, sent_all, sent_more, sent_none, sent_short}
+use Rattle.text.specs.Writes.{AppendsFront}
+use Rattle.text.proofs.Fronts.{Appends-append, sent_all, sent_more, sent_none, sent_short}
 use Rattle.abstract_port.specs.AbstractPort.{new_port}
 use Rattle.script.specs.Setup.{Setup}
 use Rattle.frame_table.specs.Words.{AbstractPort, Arrival, BadLine, FallsShort, Fault, Outcome, Runs, RunsOut, Sent, Stream, none_wait, with_head, head_line}

@@ -1,7 +1,7 @@
 -- What who watches was told of a table of streams, and of the script behind it.
 use Rattle.std.proofs.Common.{◌≡◌, ℕ, List, [], ◌++◌, Option, Some, None, Result, Ok, Err, refl, sym, ap, ◌∙◌, subst, append-nil}
 use Rattle.std.specs.Prelude.{IfSome, option_map}
-use Rattle.line_reader.specs.Script.{Script, script_of}
+use Rattle.text.specs.Script.{Script, script_of}
 use Rattle.job.specs.declared.fault.Fault.TheVariants as Faults
 use Rattle.script.specs.Alerts.{Alert}
 use Rattle.script.specs.Setup.{Setup}

@@ -1,11 +1,11 @@
 -- Reading a table of streams: the ends; and what comes of it.
 use Rattle.std.proofs.Common.{◌≡◌, ◌<◌, ◌≤◌, ◌+◌, ℕ, Bool, cond, List, [], ◌∷◌, ◌++◌, length, drop, get_or, Option, Some, None, Result, Ok, Err, true, false, refl, sym, ap, ◌∙◌, subst}
 use Rattle.std.specs.Prelude.{IfSome, ◌||◌, is_some, option_map}
-use Rattle.line_reader.specs.Script.{Script, script_of}
+use Rattle.text.specs.Script.{Script, script_of}
 use Rattle.job.specs.declared.fault.Fault.{Fault}
 use Rattle.job.specs.declared.fault.Fault.TheVariants as Faults
 use Rattle.script.specs.declared.faults.ScriptFault.{ScriptFault}
-use Rattle.octet_writer.proofs.Fronts.{Appends-nil, sent_none}
+use Rattle.text.proofs.Fronts.{Appends-nil, sent_none}
 use Rattle.script.specs.Setup.{Setup}
 use Rattle.job.proofs.LineLaws.{memory_exit}
 use Rattle.frame_table.specs.Words.{BadLine, Command, Outcome, RunsOut, StreamsInput, Table, TcFault, frames_by, frames_by_stream, frames_in, frames_unless, has_deadlines, has_frame, ids_table, of_script, script_inputs, script_run, stream_in}

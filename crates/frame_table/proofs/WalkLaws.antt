@@ -2,8 +2,8 @@
 use Rattle.std.proofs.Common.{◌≡◌, ℕ, List, [], ◌∷◌, ◌++◌, Option, Some, None, Result, Ok, Err, refl, sym, ap, ◌∙◌, append-nil, subst}
 use Rattle.std.specs.Io.KnownBytes.{Appends, Keeps}
 use Rattle.abstract_port.proofs.RunLaws.{IsTimely, same-event, timely-settled, timely-sound}
-use Rattle.octet_writer.specs.Writes.{FallsShort}
-use Rattle.octet_writer.proofs.Fronts.{Appends-nil, front_of_short, sent_all, sent_more, sent_none}
+use Rattle.text.specs.Writes.{FallsShort}
+use Rattle.text.proofs.Fronts.{Appends-nil, front_of_short, sent_all, sent_more, sent_none}
 use Rattle.job.specs.declared.fault.Fault.TheVariants as Faults
 use Rattle.job.proofs.LineLaws.{done}
 use Rattle.job.proofs.RunEndLaws.{runs_out, sent_kept}

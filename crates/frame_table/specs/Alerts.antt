@@ -10,7 +10,7 @@ use Rattle.job.specs.Texts.{run_status}
 use Rattle.job.specs.declared.fault.Fault.{Fault}
 use Rattle.job.specs.declared.fault.Fault.TheVariants as Faults
 use Rattle.job.specs.declared.report.Ended.{Ended}
-use Rattle.line_reader.specs.Script.{Script, script_of}
+use Rattle.text.specs.Script.{Script, script_of}
 use Rattle.replay.specs.Lines as Beside
 use Rattle.replay.specs.Merge.{all_requests}
 use Rattle.replay.specs.Outcome.{ReadsAs, is_too_late}
@@ -26,8 +26,8 @@ use Rattle.script.specs.Told.{told_to}
 use Rattle.script.specs.declared.faults.BadLine.{BadLine}
 use Rattle.script.specs.declared.faults.ScriptFault.{ScriptFault}
 use Rattle.script.specs.declared.settings.BadValue.{BadValue}
-use Rattle.tc_reader.specs.Reader.{IsReader}
-use Rattle.tc_reader.specs.declared.fault.TcFault.{TcFault}
+use Rattle.port_text.specs.Reader.{IsReader}
+use Rattle.port_text.specs.declared.tc_reader.fault.TcFault.{TcFault}
 use Rattle.traffic.specs.Alerts.{stream_alert, table_alerts}
 use Rattle.traffic.specs.Faults.{streams_telling}
 use Rattle.traffic.specs.declared.faults.StreamsInput.{StreamsInput}

@@ -6,12 +6,12 @@ use Rattle.job.specs.RunEnd.{IsLetOut, IsRunEnding}
 use Rattle.job.specs.declared.fault.Fault.{Fault}
 use Rattle.job.specs.declared.fault.Fault.TheVariants as Faults
 use Rattle.job.specs.declared.report.Ended.{Ended}
-use Rattle.line_reader.specs.Script.{script_of}
+use Rattle.text.specs.Script.{script_of}
 use Rattle.script.specs.Setup.{Setup}
 use Rattle.script.specs.declared.faults.BadLine.{BadLine}
 use Rattle.script.specs.declared.faults.ScriptFault.{ScriptFault}
-use Rattle.tc_reader.specs.Reader.{IsReader}
-use Rattle.tc_reader.specs.declared.fault.TcFault.{TcFault}
+use Rattle.port_text.specs.Reader.{IsReader}
+use Rattle.port_text.specs.declared.tc_reader.fault.TcFault.{TcFault}
 use Rattle.traffic.specs.Faults.{streams_telling}
 use Rattle.traffic.specs.Table.{Table}
 use Rattle.traffic.specs.declared.faults.StreamsInput.{StreamsInput}

@@ -10,7 +10,7 @@ use Rattle.job.specs.RunEnd.{IsLetOut, IsRunEnding}
 use Rattle.job.specs.declared.fault.Fault.{Fault}
 use Rattle.job.specs.declared.fault.Fault.TheVariants as Faults
 use Rattle.job.specs.declared.report.Ended.{Ended}
-use Rattle.line_reader.specs.Script.{script_of}
+use Rattle.text.specs.Script.{script_of}
 use Rattle.replay.specs.Lines.{reading_of}
 use Rattle.replay.specs.Merge.{all_requests}
 use Rattle.replay.specs.Outcome.{ReadsAs, end_fault, ended_by, is_too_late}
@@ -22,8 +22,8 @@ use Rattle.replay.specs.declared.faults.Stop.{Stop}
 use Rattle.script.specs.Requests.{Request}
 use Rattle.script.specs.Setup.{Setup}
 use Rattle.script.specs.declared.faults.BadLine.{BadLine}
-use Rattle.tc_reader.specs.Reader.{IsReader}
-use Rattle.tc_reader.specs.declared.fault.TcFault.{TcFault}
+use Rattle.port_text.specs.Reader.{IsReader}
+use Rattle.port_text.specs.declared.tc_reader.fault.TcFault.{TcFault}
 use Rattle.frame_table.specs.Outcome.{table_by, with_head}
 use Rattle.frame_table.specs.Waits.{none_wait}
 

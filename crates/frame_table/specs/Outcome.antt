@@ -5,8 +5,8 @@ use Rattle.abstract_port.specs.Answers.{answers_to}
 use Rattle.abstract_port.specs.Sound.{IsSoundPort}
 use Rattle.abstract_port.specs.declared.Command.{Command}
 use Rattle.abstract_port.specs.declared.Event.{Event}
-use Rattle.line_reader.specs.Script.{Script, script_of}
-use Rattle.tc_reader.specs.declared.fault.TcFault.{TcFault}
+use Rattle.text.specs.Script.{Script, script_of}
+use Rattle.port_text.specs.declared.tc_reader.fault.TcFault.{TcFault}
 use Rattle.job.specs.Outcome.{Outcome}
 use Rattle.script.specs.ScriptEnd.{Whole}
 use Rattle.script.specs.Outcome.{Reading, asked_in, reading_of}

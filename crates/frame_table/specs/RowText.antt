@@ -1,7 +1,7 @@
 -- The text of a table: comma-separated values with a head. A field that a frame lacks is empty.
 use Rattle.std.specs.Prelude.{ℕ, ◌-◌, List, [], ◌∷◌, ◌++◌, Bool, false, Option, Some, None, decimal, codes, if◌then◌else◌}
 use Rattle.std.specs.List.{concat, flat_map}
-use Rattle.answer_text.specs.Names.{dropped_name}
+use Rattle.port_text.specs.AnswerNames.{dropped_name}
 use Rattle.frame_table.specs.declared.rows.Fate.{Fate}
 use Rattle.frame_table.specs.declared.rows.Fate.TheVariants.{Sent, Left, Lost}
 use Rattle.frame_table.specs.declared.rows.FrameRow.{FrameRow}

@@ -1,6 +1,6 @@
 -- Which stream of a table a frame is of, by its ID. A stream is named by its first ID.
 use Rattle.std.specs.Prelude.{ℕ, ◌+◌, nat_le, nat_lt, ◌&&◌, Bool, List, [], ◌∷◌, Option, Some, None, Result, Ok, Err, if◌then◌else◌}
-use Rattle.line_reader.specs.Script.{Script}
+use Rattle.text.specs.Script.{Script}
 use Rattle.script.specs.declared.faults.ScriptFault.{ScriptFault}
 use Rattle.script.specs.declared.faults.ScriptFault.TheVariants.{BadNumber}
 use Rattle.traffic.specs.Table.{Table, has_ids, table_by}

@@ -3,8 +3,8 @@ use Rattle.std.proofs.Common.{◌≡◌, ℕ, List, [], ◌∷◌, ◌++◌, Opt
 use Rattle.std.proofs.lemmas.Grind.{flat_map-append}
 use Rattle.std.specs.Io.KnownBytes.{Appends}
 use Rattle.abstract_port.specs.declared.Answer.TheVariants as Answers
-use Rattle.octet_writer.specs.Writes.{AppendsFront}
-use Rattle.octet_writer.proofs.Fronts.{Appends-append, Appends-nil}
+use Rattle.text.specs.Writes.{AppendsFront}
+use Rattle.text.proofs.Fronts.{Appends-append, Appends-nil}
 use Rattle.script.specs.Told.{Told, Answered, Came, Otherwise}
 use Rattle.frame_table.specs.RowText.{row_line, rows_text}
 use Rattle.frame_table.specs.Rows.{arrival_at, sent_row}

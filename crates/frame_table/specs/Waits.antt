@@ -1,6 +1,6 @@
 -- The frames that wait, by class, each with its arrival.
 use Rattle.std.specs.Prelude.{ℕ, nat_lt, List, [], ◌∷◌, ◌++◌, drop, slice_get, slice_set, slice_index_or, Option, None, if◌then◌else◌}
-use Rattle.per_class.specs.Eight.{eight}
+use Rattle.abstract_port.specs.Eight.{eight}
 use Rattle.frame_table.specs.declared.rows.Arrival.{Arrival}
 
 -- nothing waits in any of the eight classes

@@ -7,7 +7,7 @@ use Rattle.capture.specs.declared.fault.CapFault.{CapFault}
 use Rattle.capture.specs.declared.reader.End.{End}
 use Rattle.job.specs.Outcome.{Outcome, RunsOut}
 use Rattle.job.specs.declared.fault.Fault.{Fault}
-use Rattle.octet_writer.specs.Writes.{Sent}
+use Rattle.text.specs.Writes.{Sent}
 use Rattle.replay.specs.Merge.{Timed, before_end, came_from, lines_after}
 use Rattle.replay.specs.RecordsLeft.{EndsSo}
 use Rattle.script.specs.Alerts.{Alert, Alerting}

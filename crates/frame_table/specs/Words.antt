@@ -7,12 +7,12 @@ pub use Rattle.abstract_port.specs.Sound.{IsSoundPort}
 pub use Rattle.abstract_port.specs.declared.Command.{Command}
 pub use Rattle.abstract_port.specs.declared.Event.{Event}
 pub use Rattle.abstract_port.specs.declared.Event.TheVariants.{Arrive, Clock, Count, Install, Query}
-pub use Rattle.words.specs.Words.{words_of}
-pub use Rattle.octet_writer.specs.Writes.{FallsShort, Sent, Writes}
-pub use Rattle.line_reader.specs.LineReader.{Advances, current_line, current_number, most_lines, script_left}
-pub use Rattle.line_reader.specs.Script.{Script}
-pub use Rattle.tc_reader.specs.Reader.{IsReader}
-pub use Rattle.tc_reader.specs.declared.fault.TcFault.{TcFault}
+pub use Rattle.text.specs.Words.{words_of}
+pub use Rattle.text.specs.Writes.{FallsShort, Sent, Writes}
+pub use Rattle.text.specs.LineReader.{Advances, current_line, current_number, most_lines, script_left}
+pub use Rattle.text.specs.Script.{Script}
+pub use Rattle.port_text.specs.Reader.{IsReader}
+pub use Rattle.port_text.specs.declared.tc_reader.fault.TcFault.{TcFault}
 pub use Rattle.job.specs.Lines.{Steps}
 pub use Rattle.job.specs.Outcome.{Outcome, Runs, RunsOut}
 pub use Rattle.job.specs.declared.fault.Fault.{Fault}

@@ -4,8 +4,8 @@ ghost use Rattle.std.specs.Prelude.{◌≡◌, ◌<◌, ◌++◌, ◌∷◌, [],
 ghost use Rattle.frame_table.specs.Waits.{none_wait, waiting_in};
 
 use crate::rows::Arrival;
+use abstract_port::per_class::{PerClass, classes_of};
 use circular_buffer::HeapCircularBuffer;
-use per_class::{PerClass, classes_of};
 use std::alloc::{AllocError, Allocator};
 use std::marker::Model;
 use wire_time::CLASSES;

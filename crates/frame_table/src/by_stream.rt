@@ -6,10 +6,10 @@ ghost use Rattle.frame_table.specs.Words.{Command, IsReader, IsWatchedByStream, 
 use crate::streams::Streams;
 use crate::table_run::run_with;
 use job::Fault;
-use line_reader::LineReader;
 use script::{BadLine, RunFault, Settings, Watch};
 use std::alloc::Allocator;
 use std::io::{Read, Write};
+use text::line_reader::LineReader;
 use traffic::{StreamsFault, StreamsInput, read_table, table_fault};
 
 /// The fault of a line of the script, where there are two inputs.

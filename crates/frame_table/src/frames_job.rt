@@ -1,7 +1,7 @@
 //! The program's job: a script becomes a table of its frames.
 
 ghost use Rattle.std.specs.Prelude.{◌≡◌, IfErr};
-ghost use Rattle.octet_writer.specs.Buffered.{writer_contents};
+ghost use Rattle.text.specs.Buffered.{writer_contents};
 ghost use Rattle.frame_table.specs.Alerts.{IsWatchedByStreamEnding, IsWatchedCaptureEnding, IsWatchedEnding};
 ghost use Rattle.frame_table.specs.Words.{IsByStreamEnding, IsCaptureEnding, IsEnding, greatest_moment, settings_given, whole_frames, words_of_values};
 
@@ -9,10 +9,10 @@ use crate::by_stream::run_frames_by_stream;
 use crate::capture_run::run_frames_of_capture;
 use crate::table_run::run_frames;
 use job::{Ended, Errors, end_run};
-use octet_writer::BufWriter;
 use script::{Settings, Values, Watch, end_with_value, settings_given};
 use std::alloc::Allocator;
 use std::io::{Read, Write};
+use text::octet_writer::BufWriter;
 use wire_time::MAX_MOMENT;
 
 /// Writes the table of the frames of the script that `reader` gives, by these values, through `answers`, with the text

@@ -12,14 +12,14 @@ use crate::arrivals::Arrivals;
 use crate::rows::{Arrival, Fate, FrameRow, write_row};
 use crate::streams::Streams;
 use crate::table_run::put_all_left;
+use abstract_port::separation::settling;
 use abstract_port::{Command, Counters, Dropped, Refused, Report, Start};
 use job::{Halt, halted};
-use line_reader::LineReader;
+use port_text::tc_reader::TcFault;
 use script::{Observer, RunFault, RunningPort, Unwatched, Watch, walk, walk_on};
-use separation::settling;
 use std::alloc::Allocator;
 use std::io::{Read, Write};
-use tc_reader::TcFault;
+use text::line_reader::LineReader;
 use wire_time::Frame;
 
 /// Writes a row for each frame whose fate it is told, with its stream where there is a table of streams. Nobody is told

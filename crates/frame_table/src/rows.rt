@@ -1,8 +1,8 @@
 //! The rows of a table, and their text.
 
 ghost use Rattle.std.specs.Prelude.{◌≡◌};
-ghost use Rattle.octet_writer.specs.Writes.{Writes};
-ghost use Rattle.answer_text.specs.Part.{text_of};
+ghost use Rattle.text.specs.Writes.{Writes};
+ghost use Rattle.port_text.specs.Part.{text_of};
 ghost use Rattle.script.specs.Alerts.{Alerting};
 ghost use Rattle.frame_table.specs.Alerts.{judged_row};
 ghost use Rattle.frame_table.specs.StreamOf.{stream_by};
@@ -11,7 +11,7 @@ ghost use Rattle.frame_table.specs.RowText.{end_text, fate_text, has_column, hea
 use crate::deadline::{deadline_text, tell_judged};
 use crate::streams::{Streams, stream_by};
 use abstract_port::{Dropped, Start};
-use answer_text::{Part, WriteFault, dropped_name, put, put_parts};
+use port_text::answer_text::{Part, WriteFault, dropped_name, put, put_parts};
 use script::Watch;
 use std::alloc::Allocator;
 use std::io::Write;

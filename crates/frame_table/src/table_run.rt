@@ -9,14 +9,14 @@ use crate::arrivals::Arrivals;
 use crate::row_writer::{RowWriter, walk_rows};
 use crate::rows::{Arrival, Fate, FrameRow, has_column, put_head, put_row};
 use crate::streams::Streams;
+use abstract_port::separation::settling;
 use abstract_port::{Event, Refused, Start};
-use answer_text::WriteFault;
 use job::next_line;
-use line_reader::LineReader;
+use port_text::answer_text::WriteFault;
 use script::{BadLine, Failure, RunFault, RunningPort, Said, Settings, Watch, read_line, read_tc};
-use separation::settling;
 use std::alloc::Allocator;
 use std::io::{Read, Write};
+use text::line_reader::LineReader;
 use wire_time::{CLASSES, Frame, MAX_MOMENT};
 
 /// Takes a frame that comes: it waits from now on, or it is dropped, and its row is written.

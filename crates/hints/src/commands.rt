@@ -3,13 +3,13 @@
 use crate::marks::{Hint, Span, put_hint, span_at, span_behind, span_of, word_at};
 use crate::near::nearest;
 use abstract_port::Refused;
-use answer_text::{Part, WriteFault, put_parts, put_refused, put_tc_fault};
-use class_map::{MapFault, QueueFault};
-use gate_list::{GateFault, PlanFault};
+use abstract_port::class_map::{MapFault, QueueFault};
+use gates::gate_list::{GateFault, PlanFault};
+use port_text::answer_text::{Part, WriteFault, put_parts, put_refused, put_tc_fault};
+use port_text::tc_reader::{Opt, TcFault};
 use script::Failure;
 use std::io::Write;
-use tc_reader::{Opt, TcFault};
-use words::Words;
+use text::words::Words;
 
 /// The options of taprio.
 const OPTIONS: [&[u8]; 12] = [

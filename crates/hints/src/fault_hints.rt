@@ -2,8 +2,8 @@
 
 use crate::marks::{Hint, put_hint, span_at};
 use crate::script_words::{bad_number, unknown_line, unknown_network_line, word_count};
-use answer_text::{Part, WriteFault, put_parts};
 use job::{CaptureKind, FaultKind, LineKind, ValueKind};
+use port_text::answer_text::{Part, WriteFault, put_parts};
 use std::io::Write;
 
 /// What helps with the fault of a line, where the line is known.

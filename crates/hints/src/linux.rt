@@ -3,9 +3,9 @@
 //! It is read in the source of the kernel: see "The software mode of Linux" in docs/compare.md.
 
 use abstract_port::{Change, Command};
-use answer_text::{Part, WriteFault, put_parts};
+use port_text::answer_text::{Part, WriteFault, put_parts};
 use std::io::Write;
-use words::Words;
+use text::words::Words;
 
 /// The greatest cycle that Linux takes, in nanoseconds: that of a number of 32 bits with a sign.
 const GREATEST_CYCLE: u64 = 2_147_483_647;

@@ -1,9 +1,9 @@
 //! A line with a word marked.
 
 use arrayvec::ArrayVec;
-use octet_writer::{WriteFault, put};
 use std::io::Write;
-use words::Words;
+use text::octet_writer::{WriteFault, put};
+use text::words::Words;
 
 /// How many octets of a line are shown at most.
 const WIDTH: usize = 100;

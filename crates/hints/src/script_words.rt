@@ -2,9 +2,9 @@
 
 use crate::marks::{Hint, Span, span_at, span_behind, span_of, word_at};
 use crate::near::nearest;
-use times::time;
+use text::times::time;
+use text::words::{Words, number};
 use wire_time::MAX_MOMENT;
-use words::{Words, number};
 
 /// A word with a limit.
 #[derive(Clone, Copy)]

@@ -2,11 +2,11 @@
 //! its longest wait is made of.
 
 use abstract_port::Change;
-use answer_text::{Part, WriteFault, put_parts};
-use gate_list::{Entry, is_open};
-use octet_writer::put;
+use gates::gate_list::{Entry, is_open};
+use port_text::answer_text::{Part, WriteFault, put_parts};
 use script::{Sharers, Shares};
 use std::io::Write;
+use text::octet_writer::put;
 
 /// Writes the numbers of the classes that are meant.
 fn put_classes<W: Write>(writer: &mut W, classes: &[bool; 8]) -> Result<(), WriteFault> {

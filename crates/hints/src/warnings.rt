@@ -3,10 +3,10 @@
 use crate::marks::{Hint, put_hint, span_at};
 use crate::sharers::put_sharers;
 use abstract_port::{Change, Dropped};
-use answer_text::{Part, WriteFault, dropped_name, put_parts};
-use octet_writer::put;
+use port_text::answer_text::{Part, WriteFault, dropped_name, put_parts};
 use script::{Basis, Missed};
 use std::io::Write;
+use text::octet_writer::put;
 
 /// The ids of the frames of a stream, and the number of its line in a table.
 #[derive(Clone, Copy, Debug, PartialEq, Eq)]

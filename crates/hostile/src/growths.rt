@@ -3,17 +3,17 @@
 //! answers `Memory` comes out otherwise than it should, since the last runs meet no refusal.
 
 use super::rows::{Given, Job, Replaying, Runs, hundred_frames};
+use abstract_port::class_queue::{ClassQueue, QueueNew};
 use abstract_port::{Answer, Event, Start};
 use capture::{CapFault, CaptureReader};
-use class_queue::{ClassQueue, QueueNew};
 use jumping::Jumping;
-use line_reader::LineReader;
 use port::{Port, PortFault};
-use refusing_heap::RefusingHeap;
 use replay::ReplayFault;
 use script::RunFault;
 use std::alloc::Global;
 use std::io;
+use test_support::refusing_heap::RefusingHeap;
+use text::line_reader::LineReader;
 use wire_time::Frame;
 
 /// The heap of the run with this number: each growth has two runs, one in which it alone is refused, and one with all

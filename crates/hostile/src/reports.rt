@@ -3,14 +3,14 @@
 
 use super::rows::{Given, Job, Runs};
 use job::Ended;
-use octet_writer::BufWriter;
-use refusing_heap::RefusingHeap;
 use replay::{Inputs, Outputs, Stamp, Timing, answer_replay};
 use schedule_check::{CheckWords, answer_check};
 use script::{Settings, Unwatched, Values, answer_script};
 use std::alloc::Global;
 use std::io;
-use test_streams::TWO_RECORDS;
+use test_support::refusing_heap::RefusingHeap;
+use test_support::test_streams::TWO_RECORDS;
+use text::octet_writer::BufWriter;
 use traffic::{StreamsWords, answer_streams};
 
 /// How each call ends.

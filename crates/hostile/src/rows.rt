@@ -1,13 +1,13 @@
 //! What is fed: jobs over lines, replays, and settings.
 
 use capture::{CAPTURE_END, CaptureWriter};
-use octet_writer::PutLine;
 use replay::{ReplayFault, Stamp, replay};
 use schedule_check::{CheckSettings, check};
 use script::{RunFault, Settings, Unwatched, run_script};
 use std::alloc::{Allocator, Global};
 use std::io::{self, Read, Write};
-use test_streams::{BOTH_LEFT, BOTH_TOLD, TWO_RECORDS};
+use test_support::test_streams::{BOTH_LEFT, BOTH_TOLD, TWO_RECORDS};
+use text::octet_writer::PutLine;
 use wire_time::Rate;
 
 /// A frame that leaves at once.

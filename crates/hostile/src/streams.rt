@@ -7,7 +7,7 @@ use capture::{CapFault, CaptureReader};
 use replay::ReplayFault;
 use script::RunFault;
 use std::alloc::Global;
-use test_streams::{Pieces, Tally, Turn, TurningReader, TurningWriter, nth_turn};
+use test_support::test_streams::{Pieces, Tally, Turn, TurningReader, TurningWriter, nth_turn};
 
 /// One piece is all that is asked for.
 const WHOLE: usize = usize::MAX;

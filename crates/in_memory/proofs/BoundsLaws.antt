@@ -9,7 +9,7 @@ use Rattle.stream_bounds.specs.Outcome.{IsOutcome}
 use Rattle.stream_bounds.specs.TableRead.{may_stop}
 use Rattle.stream_bounds.specs.declared.faults.BoundsInput.{BoundsInput}
 use Rattle.stream_bounds.specs.declared.settings.BoundsSettings.{BoundsSettings}
-use Rattle.tc_reader.specs.declared.fault.TcFault.{TcFault}
+use Rattle.port_text.specs.declared.tc_reader.fault.TcFault.{TcFault}
 use Rattle.in_memory.specs.Bounds.{AnswersBounds}
 use Rattle.in_memory.specs.Slices.{Answers, HasNoMemory, IsFailed, Slices, told_of}
 use Rattle.in_memory.specs.declared.jobs.Ran.{Ran}

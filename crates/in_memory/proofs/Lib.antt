@@ -1,2 +1,2 @@
-pub mod PictureLaws
 mod BoundsLaws
+pub mod PictureLaws

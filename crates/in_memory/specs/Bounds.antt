@@ -7,8 +7,8 @@ use Rattle.stream_bounds.specs.declared.settings.BoundsSettings.{BoundsSettings}
 use Rattle.stream_bounds.specs.declared.settings.BoundsValue.{BoundsValue}
 use Rattle.stream_bounds.specs.declared.settings.TheConstants.{MAX_FRAMES}
 use Rattle.stream_bounds.specs.Outcome.{IsOutcome}
-use Rattle.tc_reader.specs.declared.fault.TcFault.{TcFault}
-use Rattle.gate_list.specs.Gate.{opens}
+use Rattle.port_text.specs.declared.tc_reader.fault.TcFault.{TcFault}
+use Rattle.gates.specs.Gate.{opens}
 use Rattle.in_memory.specs.declared.bounds.BoundsAsked.{BoundsAsked}
 use Rattle.in_memory.specs.Slices.{Answers, HasNoMemory, Slices, Told, told_of}
 use Rattle.in_memory.specs.declared.jobs.Ran.{Ran}

@@ -1,5 +1,5 @@
-pub mod Values
-pub mod Slices
 pub mod Bounds
 pub mod Captures
 pub mod Pictures
+pub mod Slices
+pub mod Values

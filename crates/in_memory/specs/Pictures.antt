@@ -7,8 +7,8 @@ use Rattle.drawing.specs.declared.options.DrawOptions.{DrawOptions}
 use Rattle.script.specs.Setup.{Setup}
 use Rattle.script.specs.declared.settings.BadValue.{BadValue}
 use Rattle.script.specs.Texts.{script_telling}
-use Rattle.tc_reader.specs.Reader.{IsReader}
-use Rattle.tc_reader.specs.declared.fault.TcFault.{TcFault}
+use Rattle.port_text.specs.Reader.{IsReader}
+use Rattle.port_text.specs.declared.tc_reader.fault.TcFault.{TcFault}
 use Rattle.in_memory.specs.Slices.{Answers, Slices, refused, told_of}
 use Rattle.in_memory.specs.declared.jobs.Ran.{Ran}
 use Rattle.in_memory.specs.declared.pictures.PictureValues.{PictureValues}

@@ -4,12 +4,12 @@ ghost use Rattle.std.specs.Prelude.{◌≡◌, List, ℕ, Ok, Result};
 ghost use Rattle.abstract_port.specs.declared.Command.{Command};
 ghost use Rattle.in_memory.specs.Bounds.{AnswersBounds, classes_of, frames_at, bounds_settings_at};
 ghost use Rattle.in_memory.specs.Slices.{slices};
-ghost use Rattle.tc_reader.specs.Reader.{IsReader};
-ghost use Rattle.tc_reader.specs.declared.fault.TcFault.{TcFault};
+ghost use Rattle.port_text.specs.Reader.{IsReader};
+ghost use Rattle.port_text.specs.declared.tc_reader.fault.TcFault.{TcFault};
 
 use crate::jobs::{Ran, end_in_memory, put_told, refuse_value};
 use crate::values::{PortValues, settings_at};
-use gate_list::is_open;
+use gates::gate_list::is_open;
 use script::Unwatched;
 use std::alloc::Global;
 use stream_bounds::{BoundsSettings, BoundsValue, MAX_FRAMES, bounds};

@@ -9,8 +9,8 @@ ghost use Rattle.in_memory.specs.Captures.{Replays, outputs, refused_replay, tol
 ghost use Rattle.in_memory.specs.Values.{settings_at};
 ghost use Rattle.replay.specs.Outcome.{Ends, Outcome, ReadsAs, outcome_of};
 ghost use Rattle.replay.specs.Outputs.{got};
-ghost use Rattle.tc_reader.specs.Reader.{IsReader};
-ghost use Rattle.tc_reader.specs.declared.fault.TcFault.{TcFault};
+ghost use Rattle.port_text.specs.Reader.{IsReader};
+ghost use Rattle.port_text.specs.declared.tc_reader.fault.TcFault.{TcFault};
 
 use crate::jobs::put_front;
 use crate::values::{PortValues, settings_at};

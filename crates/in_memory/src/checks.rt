@@ -8,8 +8,8 @@ ghost use Rattle.schedule_check.specs.CheckEnd.{usual};
 ghost use Rattle.schedule_check.specs.Checked.{whole_check};
 ghost use Rattle.schedule_check.specs.Windows.{IsTeller, Teller};
 ghost use Rattle.script.specs.Texts.{script_telling};
-ghost use Rattle.tc_reader.specs.Reader.{IsReader};
-ghost use Rattle.tc_reader.specs.declared.fault.TcFault.{TcFault};
+ghost use Rattle.port_text.specs.Reader.{IsReader};
+ghost use Rattle.port_text.specs.declared.tc_reader.fault.TcFault.{TcFault};
 
 use crate::jobs::{Ran, end_in_memory, refuse_value};
 use crate::values::rate_at;

@@ -13,8 +13,8 @@ ghost use Rattle.in_memory.specs.Values.{settings_at};
 ghost use Rattle.replay.specs.Outcome.{ReadsAs};
 ghost use Rattle.replay.specs.Texts.{replay_telling};
 ghost use Rattle.script.specs.Texts.{script_telling};
-ghost use Rattle.tc_reader.specs.Reader.{IsReader};
-ghost use Rattle.tc_reader.specs.declared.fault.TcFault.{TcFault};
+ghost use Rattle.port_text.specs.Reader.{IsReader};
+ghost use Rattle.port_text.specs.declared.tc_reader.fault.TcFault.{TcFault};
 ghost use Rattle.traffic.specs.Faults.{streams_telling};
 
 use crate::jobs::{Ran, end_in_memory, refuse_value};

@@ -6,8 +6,8 @@ ghost use Rattle.in_memory.specs.Slices.{Answers, slices, told_by};
 ghost use Rattle.in_memory.specs.Values.{settings_at};
 ghost use Rattle.script.specs.Outcome.{outcome_of};
 ghost use Rattle.script.specs.Texts.{script_telling};
-ghost use Rattle.tc_reader.specs.Reader.{IsReader};
-ghost use Rattle.tc_reader.specs.declared.fault.TcFault.{TcFault};
+ghost use Rattle.port_text.specs.Reader.{IsReader};
+ghost use Rattle.port_text.specs.declared.tc_reader.fault.TcFault.{TcFault};
 
 use crate::jobs::{Ran, end_in_memory, refuse_value};
 use crate::values::{PortValues, settings_at};

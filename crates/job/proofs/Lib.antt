@@ -1,2 +1,2 @@
-pub mod RunEndLaws
 pub mod LineLaws
+pub mod RunEndLaws

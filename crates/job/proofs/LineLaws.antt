@@ -2,13 +2,13 @@
 use Rattle.std.proofs.Common.{◌≡◌, ℕ, List, [], ◌++◌, Option, Some, None, Result, Ok, Err, true, false, refl, sym, ap, ◌∙◌, subst, append-nil}
 use Rattle.std.specs.Prelude.{IfSome}
 use Rattle.std.specs.Io.KnownBytes.{Appends, Keeps}
-use Rattle.octet_writer.specs.Writes.{FallsShort, Sent}
-use Rattle.octet_writer.proofs.Fronts.{sent_none, sent_more, sent_short, sent_all}
-use Rattle.line_reader.specs.Script.{Script, End, Broken, Line}
-use Rattle.line_reader.specs.LineReader.{Advances}
-use Rattle.line_reader.specs.declared.lines.Limit.{Limit}
-use Rattle.line_reader.specs.declared.lines.LineFault.{LineFault}
-use Rattle.line_reader.specs.declared.lines.LineFault.TheVariants as LineFaults
+use Rattle.text.specs.Writes.{FallsShort, Sent}
+use Rattle.text.proofs.Fronts.{sent_none, sent_more, sent_short, sent_all}
+use Rattle.text.specs.Script.{Script, End, Broken, Line}
+use Rattle.text.specs.LineReader.{Advances}
+use Rattle.text.specs.declared.line_reader.lines.Limit.{Limit}
+use Rattle.text.specs.declared.line_reader.lines.LineFault.{LineFault}
+use Rattle.text.specs.declared.line_reader.lines.LineFault.TheVariants as LineFaults
 use Rattle.job.specs.Lines.{Steps, fault_of_line}
 use Rattle.job.specs.Outcome.{Outcome, Runs, RunsOut}
 use Rattle.job.proofs.RunEndLaws.{input_out, sent_kept}

@@ -2,7 +2,7 @@
 use Rattle.std.proofs.Common.{List, ℕ, [], Option, Some, None, Result, Ok, Err, inl, inr, sym, ◌∙◌, subst, append-nil}
 use Rattle.std.specs.Prelude.{IfSome}
 use Rattle.std.specs.Io.KnownBytes.{Appends, Keeps, append_known}
-use Rattle.octet_writer.specs.Writes.{AppendsFront, Sent}
+use Rattle.text.specs.Writes.{AppendsFront, Sent}
 use Rattle.job.specs.RunEnd.{IsEndOf, IsLetOut, IsOrFails, IsRunEnding}
 use Rattle.job.specs.Outcome.{Outcome, Runs, RunsOut}
 use Rattle.job.specs.Report.{Telling}

@@ -1,6 +1,6 @@
 -- Why a call can't go on, whatever the inputs say.
 use Rattle.std.specs.Prelude.{Result, Ok, Err}
-use Rattle.octet_writer.specs.declared.WriteFault.{WriteFault}
+use Rattle.text.specs.declared.octet_writer.WriteFault.{WriteFault}
 use Rattle.job.specs.declared.fault.Fault.{Fault}
 use Rattle.job.specs.declared.fault.Fault.TheVariants as Faults
 use Rattle.job.specs.declared.halt.Halt.{Halt}

@@ -1,7 +1,7 @@
-pub mod Report
-pub mod Texts
+pub mod Halts
 pub mod Kinds
 pub mod Lines
-pub mod Halts
 pub mod Outcome
+pub mod Report
 pub mod RunEnd
+pub mod Texts

@@ -1,10 +1,10 @@
 -- Faults of runs on inputs that are read line by line.
 use Rattle.std.specs.Prelude.{◌≡◌, ℕ, List, Bool, Option, Result, Ok, Err}
-use Rattle.line_reader.specs.LineReader.{Advances}
-use Rattle.line_reader.specs.Script.{Script}
-use Rattle.line_reader.specs.declared.lines.Limit.{Limit}
-use Rattle.line_reader.specs.declared.lines.LineFault.{LineFault}
-use Rattle.line_reader.specs.declared.lines.LineFault.TheVariants as LineFaults
+use Rattle.text.specs.LineReader.{Advances}
+use Rattle.text.specs.Script.{Script}
+use Rattle.text.specs.declared.line_reader.lines.Limit.{Limit}
+use Rattle.text.specs.declared.line_reader.lines.LineFault.{LineFault}
+use Rattle.text.specs.declared.line_reader.lines.LineFault.TheVariants as LineFaults
 use Rattle.job.specs.declared.fault.Fault.{Fault}
 use Rattle.job.specs.declared.fault.Fault.TheVariants as Faults
 

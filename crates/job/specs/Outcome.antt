@@ -1,7 +1,7 @@
 -- What is written by a run of a job, and the fault of an input that ends it.
 use Rattle.std.specs.Prelude.{◌≡◌, List, ℕ, Option, Some, None, Result, Ok, Err}
 use Rattle.std.specs.Io.KnownBytes.{Appends}
-use Rattle.octet_writer.specs.Writes.{AppendsFront, FallsShort}
+use Rattle.text.specs.Writes.{AppendsFront, FallsShort}
 use Rattle.job.specs.declared.fault.Fault.{Fault}
 use Rattle.job.specs.declared.fault.Fault.TheVariants as Faults
 

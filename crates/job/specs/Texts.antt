@@ -1,7 +1,7 @@
 -- The texts of faults, and the exit statuses that go with them.
 use Rattle.std.specs.Prelude.{List, ℕ, [], Bool, true, false, Option, Result, Ok, Err, codes}
 use Rattle.std.specs.Io.KnownBytes.{Appends}
-use Rattle.octet_writer.specs.Writes.{FallsShort}
+use Rattle.text.specs.Writes.{FallsShort}
 use Rattle.job.specs.Report.{Telling}
 use Rattle.job.specs.declared.fault.Fault.{Fault}
 use Rattle.job.specs.declared.fault.Fault.TheVariants as Faults

@@ -5,11 +5,11 @@ ghost use Rattle.job.specs.Lines.{fault_of_line};
 ghost use Rattle.job.specs.declared.fault.Fault.TheVariants as Faults;
 
 use crate::input::LineInput;
-use line_reader::LineFault;
-use octet_writer::WriteFault;
 use std::alloc::AllocError;
 use std::error::Error;
 use std::fmt::{self, Debug, Display};
+use text::line_reader::LineFault;
+use text::octet_writer::WriteFault;
 
 /// Why a run of a job ended early: the fault of an input, which is the job's own; or a call failed. What was written is
 /// then a prefix of the right output, and all of it at the fault of an input.

@@ -4,7 +4,7 @@ ghost use Rattle.std.specs.Prelude.{◌≡◌};
 ghost use Rattle.job.specs.Halts.{fault_of_halt, halted};
 
 use crate::fault::Fault;
-use octet_writer::WriteFault;
+use text::octet_writer::WriteFault;
 
 /// Why a call can't go on, whatever the inputs say.
 #[derive(Clone, Copy, Debug, PartialEq, Eq)]

@@ -1,15 +1,15 @@
 //! What is reported of the fault of an input.
 
 ghost use Rattle.std.specs.Prelude.{◌≡◌, ℕ};
-ghost use Rattle.line_reader.specs.declared.lines.Limit.{Limit};
-ghost use Rattle.octet_writer.specs.Writes.{Writes};
+ghost use Rattle.text.specs.declared.line_reader.lines.Limit.{Limit};
+ghost use Rattle.text.specs.Writes.{Writes};
 ghost use Rattle.job.specs.Report.{Telling};
 ghost use Rattle.job.specs.declared.kind.FaultKind.{FaultKind};
 
 use crate::kind::FaultKind;
-use line_reader::Limit;
-use octet_writer::WriteFault;
 use std::io::Write;
+use text::line_reader::Limit;
+use text::octet_writer::WriteFault;
 
 /// A fault of an input of a job.
 pub trait InputFault: Copy {

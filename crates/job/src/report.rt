@@ -1,15 +1,15 @@
 //! What is reported of a run.
 
 ghost use Rattle.std.specs.Prelude.{◌≡◌, IfErr};
-ghost use Rattle.octet_writer.specs.Writes.{Writes};
+ghost use Rattle.text.specs.Writes.{Writes};
 ghost use Rattle.job.specs.Kinds.{fault_kind};
 ghost use Rattle.job.specs.Texts.{IsTold, fault_status, fault_text, run_status, run_text};
 
 use crate::fault::Fault;
 use crate::input::InputFault;
 use crate::kind::{Errors, FaultKind};
-use octet_writer::{WriteFault, put};
 use std::io::Write;
+use text::octet_writer::{WriteFault, put};
 
 fn put_fault<I: InputFault, W: Write>(fault: &Fault<I>, writer: &mut W) -> Result<(), WriteFault>
     ensures { Writes result (W.contents writer.old) (W.contents writer.new) (fault_text I.telling fault.now) }

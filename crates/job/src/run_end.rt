@@ -1,7 +1,7 @@
 //! How a run ends whose output goes through a buffer.
 
 ghost use Rattle.std.specs.Prelude.{◌≡◌, ◌⊎◌, [], Err};
-ghost use Rattle.octet_writer.specs.Buffered.{writer_buffer, writer_contents};
+ghost use Rattle.text.specs.Buffered.{writer_buffer, writer_contents};
 ghost use Rattle.std.specs.Io.KnownBytes.{Keeps, append_known};
 ghost use Rattle.job.specs.RunEnd.{IsEndOf};
 ghost use Rattle.job.specs.declared.fault.Fault.TheVariants as Faults;
@@ -10,9 +10,9 @@ use crate::fault::Fault;
 use crate::input::InputFault;
 use crate::kind::Errors;
 use crate::report::{Ended, say_run};
-use octet_writer::BufWriter;
 use std::alloc::Allocator;
 use std::io::Write;
+use text::octet_writer::BufWriter;
 
 /// Lets out what was written, also before a fault, unless a write failed already: no write is tried again.
 fn let_out<I: Copy, W: Write + Drop, B: Allocator>(

@@ -2,15 +2,15 @@
 
 ghost use Rattle.std.specs.Prelude.{◌≡◌, ◌<◌, ◌↔◌, Err, Ok, false, true};
 ghost use Rattle.std.specs.Io.KnownBytes.{Keeps};
-ghost use Rattle.line_reader.specs.LineReader.{current_line, current_number, most_lines, script_left};
+ghost use Rattle.text.specs.LineReader.{current_line, current_number, most_lines, script_left};
 ghost use Rattle.job.specs.Lines.{Steps};
 ghost use Rattle.job.specs.declared.fault.Fault.TheVariants as Faults;
 
 use crate::fault::Fault;
 use crate::input::LineInput;
-use line_reader::LineReader;
 use std::alloc::Allocator;
 use std::io::{Read, Write};
+use text::line_reader::LineReader;
 
 /// Goes on to the next line, if there is one, where what was written was let out. Else that is the fault, and no line is
 /// taken.

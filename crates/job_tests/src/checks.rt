@@ -5,7 +5,7 @@ use schedule_check::{CheckSettings, check};
 use script::{RunFault, Unwatched};
 use std::alloc::{Allocator, Global};
 use std::io::{Read, Write};
-use test_streams::{Narrow, Pieces};
+use test_support::test_streams::{Narrow, Pieces};
 use wire_time::Rate;
 
 /// The example of tc-taprio(8), and a schedule that opens classes 0 and 1 together; a deletion; and lines that are

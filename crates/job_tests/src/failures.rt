@@ -4,13 +4,13 @@ use crate::replays::{
     END, REPORT, Replayed, TWO_CAPTURED, is_front_and, replay_of, settings, three_captured,
 };
 use linked_list_allocator::LocalHeap;
-use octet_writer::PutLine;
-use refusing_heap::RefusingHeap;
 use replay::{ReplayFault, Stamp, replay};
 use script::{Settings, Unwatched};
 use std::alloc::Global;
 use std::test::Fail;
-use test_streams::{BOTH_LEFT, Narrow, Pieces};
+use test_support::refusing_heap::RefusingHeap;
+use test_support::test_streams::{BOTH_LEFT, Narrow, Pieces};
+use text::octet_writer::PutLine;
 
 /// A growth of a replay that is refused.
 #[derive(Clone, Copy)]

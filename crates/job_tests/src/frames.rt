@@ -2,13 +2,13 @@
 
 use crate::replays::TWO_CAPTURED;
 use frame_table::{run_frames, run_frames_by_stream, run_frames_of_capture};
-use refusing_heap::RefusingHeap;
 use replay::ReplayFault;
 use script::{RunFault, Settings, Unwatched};
 use std::alloc::Global;
 use std::process::Abort;
 use std::test::Fail;
-use test_streams::{Narrow, Pieces};
+use test_support::refusing_heap::RefusingHeap;
+use test_support::test_streams::{Narrow, Pieces};
 use traffic::StreamsFault;
 use wire_time::Rate;
 

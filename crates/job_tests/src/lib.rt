@@ -4,14 +4,19 @@
 //! contract.
 #![tactic(auto)]
 
+pub mod capture_tests;
 #[cfg(test)]
 mod checks;
 #[cfg(test)]
 mod failures;
 #[cfg(test)]
 mod frames;
+pub mod limits;
+pub mod line_reader_tests;
 #[cfg(test)]
 mod memory;
+pub mod network_table_tests;
+pub mod picture_tests;
 #[cfg(test)]
 mod pictures;
 #[cfg(test)]
@@ -20,6 +25,7 @@ mod random;
 mod replays;
 #[cfg(test)]
 mod scripts;
+pub mod summary_tests;
 #[cfg(test)]
 mod tables;
 #[cfg(test)]

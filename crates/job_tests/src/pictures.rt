@@ -5,7 +5,7 @@ use script::{RunFault, Settings, Unwatched};
 use std::alloc::Global;
 use std::process::Abort;
 use std::test::Fail;
-use test_streams::{Narrow, Pieces};
+use test_support::test_streams::{Narrow, Pieces};
 use wire_time::Rate;
 
 /// A schedule, a frame that waits, and two that are dropped.

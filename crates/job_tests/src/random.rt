@@ -1,11 +1,11 @@
 //! What random schedules give each class, by the gates of `reference`, which asks at every picosecond, through three
 //! cycles.
 
-use gate_list::{Schedule, Stay, Visits};
-use list_config::Gates;
-use random_lists::Numbers;
-use reference::Plain;
+use gates::gate_list::{Schedule, Stay, Visits};
+use gates::list_config::Gates;
 use schedule_check::{Longest, Window, Windows};
+use test_support::random_lists::Numbers;
+use test_support::reference::Plain;
 use wire_time::{CLASSES, Rate};
 
 /// A cycle in nanoseconds: that of the list, or one that may cut it, or one that is longer than most.

@@ -7,7 +7,7 @@ use script::{Basis, Failure, Missed, Settings, Unwatched, Watch};
 use std::alloc::{Allocator, Global};
 use std::io::{self, Read};
 use std::test::Fail;
-use test_streams::BOTH_LEFT;
+use test_support::test_streams::BOTH_LEFT;
 use wire_time::{Frame, Rate};
 
 /// What is reported of the two frames where all gates are open: the second comes no earlier than the first, and goes

@@ -2,13 +2,13 @@
 
 use job::{Ended, say_fault};
 use linked_list_allocator::LocalHeap;
-use octet_writer::BufWriter;
 use script::{RunFault, Settings, Unwatched, Values, answer_script, run_script};
 use std::alloc::Global;
 use std::io::{self, Read, Write};
 use std::process::Abort;
 use std::test::Fail;
-use test_streams::{Narrow, Pieces};
+use test_support::test_streams::{Narrow, Pieces};
+use text::octet_writer::BufWriter;
 use wire_time::Rate;
 
 /// Takes all that it is given, but at one call, which fails.

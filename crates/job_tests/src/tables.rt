@@ -1,9 +1,9 @@
 //! Readers and writers of tables and scripts that fail, and heaps that refuse.
 
-use refusing_heap::RefusingHeap;
 use script::Unwatched;
 use std::alloc::Global;
-use test_streams::{Narrow, Pieces};
+use test_support::refusing_heap::RefusingHeap;
+use test_support::test_streams::{Narrow, Pieces};
 use traffic::{Plan, StreamsFault, write_streams};
 
 /// Two streams that meet at each second period of the first, a stream of no frames, and lines that are skipped.

@@ -1,6 +1,6 @@
 //! What a schedule gives a class that is never open: the program writes no line of it.
 
-use gate_list::{Entry, GateList, Stay};
+use gates::gate_list::{Entry, GateList, Stay};
 use schedule_check::{Longest, Window, Windows};
 use std::process::Abort;
 use wire_time::{CLASSES, Rate};

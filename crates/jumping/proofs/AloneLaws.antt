@@ -3,8 +3,8 @@ use Rattle.std.proofs.Common.{Bool, ◌≡◌, ◌<◌, ◌≤◌, ℕ, zero, su
 use Rattle.std.proofs.lemmas.Bool.{cases_lt}
 use Rattle.std.proofs.lemmas.Option.{slice_get_cases}
 use Rattle.jumping.specs.Words.{Plan, in_ps, mask_since, open_while, Accepted, cons_some, mask_in, stretches_from, NoneFits, Searched, IsLoneList, shows_alone}
-use Rattle.accepted_commands.specs.declared.command.AcceptedList.{AcceptedList}
-use Rattle.accepted_commands.specs.InForce.{Standing, accepted_list}
+use Rattle.jumping.specs.declared.accepted_commands.command.AcceptedList.{AcceptedList}
+use Rattle.jumping.specs.InForce.{Standing, accepted_list}
 use Rattle.jumping.proofs.RepeatLaws.{plan_repeats}
 use Rattle.jumping.proofs.SearchLaws.{none_jump, searched_more}
 

@@ -1,9 +1,16 @@
-pub mod SteadyLaws
-pub mod SearchLaws
-pub mod RepeatLaws
-pub mod RoundLaws
-pub mod LegLaws
-pub mod ListedLaws
-pub mod QuietLaws
-pub mod NearLaws
+mod AheadLaws
 pub mod AloneLaws
+pub mod CommandLaws
+mod HoldLaws
+pub mod LegLaws
+pub mod LegSearchLaws
+pub mod ListedLaws
+pub mod NearLaws
+pub mod PositionLaws
+pub mod QuietLaws
+pub mod RepeatLaws
+mod RoleLaws
+pub mod RoundLaws
+pub mod SearchLaws
+pub mod SteadyLaws
+pub mod UnderLaws

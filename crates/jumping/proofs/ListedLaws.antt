@@ -4,10 +4,10 @@ use Rattle.std.proofs.lemmas.Bool.{false≢true}
 use denote.Bor.{Bor}
 use Rattle.std.specs.Option.{ForSome}
 use Rattle.jumping.specs.Words.{greatest_moment, Plan, has_come, in_ps, mask_since, opens, open_while, mask_in, end_of, Position, IsPlaced, IsFlat, boundary_in, Listed, ListedLeg, Following, AreReady, DoFollow, lent_rest, stretch_of, stretches_in, stretches_ahead, Fits, IsSearch, NoneFits}
-use Rattle.list_execute.specs.Walk.{walk_mask}
-use Rattle.list_position.specs.Position.{Shows}
-use Rattle.list_position.proofs.PositionLaws.{placed_hold, placed_mask, flat_min, flat_cycle, shut_now}
-use Rattle.accepted_commands.proofs.LegLaws.{endless_while, ready_later}
+use Rattle.gates.specs.Walk.{walk_mask}
+use Rattle.jumping.specs.Position.{Shows}
+use Rattle.jumping.proofs.PositionLaws.{placed_hold, placed_mask, flat_min, flat_cycle, shut_now}
+use Rattle.jumping.proofs.LegLaws.{endless_while, ready_later}
 use Rattle.jumping.specs.declared.search.ListSearch.{ListSearch}
 use Rattle.jumping.proofs.RepeatLaws.{not_yet, shows_own, stretch_repeats}
 use Rattle.jumping.proofs.SearchLaws.{fits_flat}

@@ -4,16 +4,16 @@ use Rattle.std.proofs.lemmas.Bool.{cases_lt, lt-leb, le-ltb}
 use Rattle.std.proofs.lemmas.Option.{same_Some}
 use Rattle.std.specs.Option.{ForSome, option_or}
 use Rattle.jumping.specs.Words.{Plan, IsSchedule, opens, Accepted, cons_some, gates, open_through, plan_of, start_of, three, Position, BeginsAtMost, Commands, AreCommands, NoneBy, history_of, settled_at, Stands, edge_at, shown_by, Resumes, IsEdge, NothingComes, OneEntryComes}
-use Rattle.gate_list.proofs.OpenLaws.{open_from}
-use Rattle.list_config.specs.History.{only_if}
-use Rattle.list_config.specs.Event.{BeginsEntry, ComesAt}
-use Rattle.list_config.proofs.EventLaws.{any_after, any_here}
-use Rattle.list_config.proofs.HistoryLaws.{three_force}
-use Rattle.list_position.proofs.PositionLaws.{placed_later}
-use Rattle.accepted_commands.specs.Commands.{IsUsable, announced_by, pending_by}
-use Rattle.accepted_commands.specs.InForce.{StandsUnder, boundary_in_force, boundary_under, earlier, hold_for}
-use Rattle.accepted_commands.specs.Resume.{ResumesBy}
-use Rattle.accepted_commands.proofs.CommandLaws.{edge_events, force_still, gates_ahead, none_now, same_commands, shows_at}
+use Rattle.gates.proofs.OpenLaws.{open_from}
+use Rattle.gates.specs.History.{only_if}
+use Rattle.gates.specs.Event.{BeginsEntry, ComesAt}
+use Rattle.gates.proofs.EventLaws.{any_after, any_here}
+use Rattle.gates.proofs.HistoryLaws.{three_force}
+use Rattle.jumping.proofs.PositionLaws.{placed_later}
+use Rattle.jumping.specs.Commands.{IsUsable, announced_by, pending_by}
+use Rattle.jumping.specs.InForce.{StandsUnder, boundary_in_force, boundary_under, earlier, hold_for}
+use Rattle.jumping.specs.Resume.{ResumesBy}
+use Rattle.jumping.proofs.CommandLaws.{edge_events, force_still, gates_ahead, none_now, same_commands, shows_at}
 
 -- what is before the earlier of two moments is before both
 parts : (m : ℕ) (a b : Option ℕ) → ForSome (earlier a b) (λ u. m < u) → ForSome a (λ u. m < u) × ForSome b (λ u. m < u)

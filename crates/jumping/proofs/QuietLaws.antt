@@ -1,18 +1,18 @@
 -- From a search of legs to the choice of the gates.
 use Rattle.std.proofs.Common.{◌≡◌, ◌<◌, ◌≤◌, ℕ, ◌+◌, ◌*◌, length, get_or, slice_get, false, List, [], Option, Some, None, IsSome, refl, sym, ap, ◌∙◌, subst, arith, le_trans}
 use Rattle.std.proofs.lemmas.Option.{slice_get-get_or, slice_get_within, get_or_from_slice_get}
-use Rattle.gate_list.proofs.OpenLaws.{same_while}
-use Rattle.gate_list.proofs.FirstLaws.{none_same}
-use Rattle.list_config.specs.Choice.{may_start, may_go, first_choice}
+use Rattle.gates.proofs.OpenLaws.{same_while}
+use Rattle.gates.proofs.FirstLaws.{none_same}
+use Rattle.gates.specs.Choice.{may_start, may_go, first_choice}
 use Rattle.jumping.specs.Words.{Clocked, entry_count, longest, Accepted, gates, cons_some, three, plan_of, mask_in, stretches_from, Commands, AreCommands, history_of, mask_ahead, settled_at, NoneFits, Fits, Searched, IsLoneList, shows_alone}
-use Rattle.list_config.specs.History.{pending, announced}
-use Rattle.list_config.proofs.ChoiceLaws.{greatest_below-none, greatest_below-some}
-use Rattle.list_config.proofs.HistoryLaws.{settled_force, settled_pending, settled_announced, past_three}
-use Rattle.list_config.proofs.StretchLaws.{stretches_gates}
-use Rattle.list_config.proofs.LongestLaws.{longest-kept}
-use Rattle.accepted_commands.specs.declared.command.AcceptedList.{AcceptedList}
-use Rattle.accepted_commands.specs.InForce.{Standing}
-use Rattle.accepted_commands.proofs.CommandLaws.{settled_history}
+use Rattle.gates.specs.History.{pending, announced}
+use Rattle.gates.proofs.ChoiceLaws.{greatest_below-none, greatest_below-some}
+use Rattle.gates.proofs.HistoryLaws.{settled_force, settled_pending, settled_announced, past_three}
+use Rattle.gates.proofs.StretchLaws.{stretches_gates}
+use Rattle.gates.proofs.LongestLaws.{longest-kept}
+use Rattle.jumping.specs.declared.accepted_commands.command.AcceptedList.{AcceptedList}
+use Rattle.jumping.specs.InForce.{Standing}
+use Rattle.jumping.proofs.CommandLaws.{settled_history}
 use Rattle.jumping.proofs.AloneLaws.{searched_lone}
 
 -- masks that agree from a moment on

@@ -4,7 +4,7 @@ use Rattle.std.proofs.Math.Nat.{add-mod_left}
 use Rattle.std.proofs.lemmas.Bool.{lt-leb, leb-false}
 use Rattle.std.specs.Option.{ForSome}
 use Rattle.jumping.specs.Words.{Plan, in_ps, has_come, mask_since, Stretch, mask_of, mask_in}
-use Rattle.gate_list.specs.Gate.{mask_at, last_mask}
+use Rattle.gates.specs.Gate.{mask_at, last_mask}
 
 -- a moment that hasn't come later hasn't come before
 pub not_before : (t : Option ℕ) (m n : ℕ) → m ≤ n → has_come t n ≡ false → has_come t m ≡ false

@@ -5,12 +5,12 @@ use Rattle.std.specs.Int.Bits.{bit_and}
 use Rattle.std.proofs.Math.Nat.{mod-eq_of_lt, mul-add-mod_self_left}
 use Rattle.std.proofs.lemmas.Bool.{cases_Bool, cases_eq, false≢true}
 use Rattle.std.proofs.lemmas.Option.{get_or_from_slice_get}
-use Rattle.gate_list.specs.declared.Entry.{Entry}
-use Rattle.gate_list.specs.Gate.{mask_at}
-use Rattle.gate_list.proofs.OpenLaws.{shift_while}
-use Rattle.gate_list.proofs.PhaseLaws.{phase_is}
-use Rattle.gate_list.proofs.TableLaws.{opens_both, opens_none}
-use Rattle.list_position.proofs.PositionLaws.{prefix_grows, shut_now}
+use Rattle.gates.specs.declared.gate_list.Entry.{Entry}
+use Rattle.gates.specs.Gate.{mask_at}
+use Rattle.gates.proofs.OpenLaws.{shift_while}
+use Rattle.gates.proofs.PhaseLaws.{phase_is}
+use Rattle.gates.proofs.TableLaws.{opens_both, opens_none}
+use Rattle.jumping.proofs.PositionLaws.{prefix_grows, shut_now}
 use Rattle.jumping.specs.Words.{IsSchedule, IsShownAt, Plan, in_ps, mask_since, opens, open_while, prefix, Position, IsPlaced, NoneFits, Fits, Searched, AreAsked, IsPlace, repeated}
 use Rattle.jumping.specs.declared.alone.Place.{Place}
 use Rattle.jumping.proofs.AloneLaws.{need_inside, need_read}

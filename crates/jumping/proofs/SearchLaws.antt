@@ -2,9 +2,9 @@
 use Rattle.std.proofs.Common.{◌≡◌, ◌<◌, ◌≤◌, ℕ, ◌+◌, ◌-◌, max, true, false, List, ◌∷◌, slice_get, Option, Some, None, inl, inr, refl, ◌∙◌, arith}
 use Rattle.std.proofs.lemmas.Bool.{cases_lt}
 use Rattle.jumping.specs.Words.{has_come, open_while, NoneFrom, Stretch, mask_in, NoneFits, Fits, Searched}
-use Rattle.gate_list.proofs.FirstLaws.{none_join}
-use Rattle.list_config.proofs.IdleLaws.{none_flat}
-use Rattle.list_config.proofs.StretchLaws.{over_while, come_later}
+use Rattle.gates.proofs.FirstLaws.{none_join}
+use Rattle.gates.proofs.IdleLaws.{none_flat}
+use Rattle.gates.proofs.StretchLaws.{over_while, come_later}
 use Rattle.jumping.proofs.SteadyLaws.{none_steady}
 
 pub fits_join : (f : ℕ → ℕ) (needs : List (Option ℕ)) (t m u : ℕ) → NoneFits f needs t m → NoneFits f needs m u → NoneFits f needs t u

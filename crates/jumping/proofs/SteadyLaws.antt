@@ -2,7 +2,7 @@
 use Rattle.std.proofs.Common.{◌≡◌, ◌<◌, ◌≤◌, ℕ, zero, suc, ◌+◌, ◌-◌, true, false, inl, inr, sym, ap, ◌∙◌, arith}
 use Rattle.std.proofs.lemmas.Bool.{cases_lt, false≢true, false_from_ne_true}
 use Rattle.jumping.specs.Words.{opens, open_while, NoneFrom}
-use Rattle.gate_list.proofs.OpenLaws.{open_at, open_from}
+use Rattle.gates.proofs.OpenLaws.{open_at, open_from}
 
 -- one cycle back
 pub open_back : (f : ℕ → ℕ) (class d cycle a e n : ℕ) → ((m : ℕ) → a ≤ m → m + cycle < e → f (m + cycle) ≡ f m) → a + cycle ≤ n → n + cycle ≤ e → open_while f class n d ≡ true → open_while f class (n - cycle) d ≡ true

@@ -1,11 +1,11 @@
 -- The search in a list that no other command follows.
 use Rattle.std.specs.Prelude.{◌≡◌, ◌<◌, ℕ, true, List, Option, Some, None, is_some, length, slice_get, slice_index_or}
 use Rattle.wire_time.specs.declared.TheConstants.{CLASSES}
-use Rattle.gate_list.specs.Gate.{Plan, IsShownAt, mask_since, opens, prefix}
-use Rattle.list_position.specs.declared.Position.{Position}
-use Rattle.list_position.specs.Position.{IsPlaced}
-use Rattle.accepted_commands.specs.declared.command.AcceptedList.{AcceptedList}
-use Rattle.accepted_commands.specs.InForce.{Standing, accepted_list}
+use Rattle.gates.specs.Gate.{Plan, IsShownAt, mask_since, opens, prefix}
+use Rattle.jumping.specs.declared.list_position.Position.{Position}
+use Rattle.jumping.specs.Position.{IsPlaced}
+use Rattle.jumping.specs.declared.accepted_commands.command.AcceptedList.{AcceptedList}
+use Rattle.jumping.specs.InForce.{Standing, accepted_list}
 use Rattle.jumping.specs.declared.alone.Place.{Place}
 use Rattle.jumping.specs.declared.alone.Shown.{Shown}
 

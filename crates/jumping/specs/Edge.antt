@@ -1,11 +1,11 @@
 -- The next moment at which something comes (IEEE Std 802.1Q-2018, 8.6.9.1 to 8.6.9.3).
 use Rattle.std.specs.Prelude.{◌≡◌, ◌<◌, ◌≤◌, ℕ, List, Any, Option, IfSome}
 use Rattle.std.specs.Option.{ForSome}
-use Rattle.list_config.specs.History.{Accepted}
-use Rattle.list_config.specs.Event.{ComesAt, IsGateEvent}
-use Rattle.list_position.specs.declared.Position.{Position}
-use Rattle.accepted_commands.specs.Commands.{Commands, history_of}
-use Rattle.accepted_commands.specs.InForce.{edge_at}
+use Rattle.gates.specs.History.{Accepted}
+use Rattle.gates.specs.Event.{ComesAt, IsGateEvent}
+use Rattle.jumping.specs.declared.list_position.Position.{Position}
+use Rattle.jumping.specs.Commands.{Commands, history_of}
+use Rattle.jumping.specs.InForce.{edge_at}
 
 -- nothing comes after t and up to u: no command, and no entry of the list in force
 abbrev pub NothingComes : List Accepted → ℕ → ℕ → Type 0

@@ -1,4 +1,11 @@
-pub mod Search
-pub mod Edge
 pub mod Alone
+pub mod CommandWords
+pub mod Commands
+pub mod Edge
+pub mod InForce
+pub mod Leg
+pub mod Position
+pub mod Resume
+pub mod Roles
+pub mod Search
 pub mod Words

@@ -2,13 +2,13 @@
 use Rattle.std.specs.Prelude.{◌≡◌, ◌<◌, ◌≤◌, ℕ, ◌+◌, ◌*◌, min, true, List, [], ◌∷◌, Option, Some, None, slice_get}
 use Rattle.std.specs.Option.{ForSome}
 use Rattle.wire_time.specs.Moment.{greatest_moment}
-use Rattle.gate_list.specs.Open.{open_while}
-use Rattle.gate_list.specs.Stay.{NoneFrom}
-use Rattle.list_config.specs.Stretch.{Stretch}
-use Rattle.list_config.specs.Current.{entry_count}
-use Rattle.accepted_commands.specs.declared.leg.ListedLeg.{ListedLeg}
-use Rattle.accepted_commands.specs.declared.leg.Leg.TheVariants.{Listed}
-use Rattle.accepted_commands.specs.Leg.{AreReady, lent_rest}
+use Rattle.gates.specs.Open.{open_while}
+use Rattle.gates.specs.Stay.{NoneFrom}
+use Rattle.gates.specs.Stretch.{Stretch}
+use Rattle.gates.specs.Current.{entry_count}
+use Rattle.jumping.specs.declared.accepted_commands.leg.ListedLeg.{ListedLeg}
+use Rattle.jumping.specs.declared.accepted_commands.leg.Leg.TheVariants.{Listed}
+use Rattle.jumping.specs.Leg.{AreReady, lent_rest}
 use Rattle.jumping.specs.declared.search.ListSearch.{ListSearch}
 
 -- no class with a need is open through it from t on and below u

@@ -2,9 +2,9 @@
 ghost use Rattle.std.specs.Prelude.{◌≡◌, ℕ, ◌+◌, ◌*◌, ◌<◌, ◌≤◌, Some, None, true, false, length, slice_get};
 ghost use Rattle.jumping.specs.Words.{greatest_moment, IsSchedule, in_ps, open_while, IsPlaced, Fits, Searched, AreAsked, IsPlace, IsShown, prefix, repeated, shows_alone};
 
-use accepted_commands::AcceptedList;
-use gate_list::{Schedule, Stay, Visits, is_open};
-use queue_heads::{Heads, highest, without};
+use crate::accepted_commands::AcceptedList;
+use gates::gate_list::{Schedule, Stay, Visits, is_open};
+use gates::queue_heads::{Heads, highest, without};
 use wire_time::CLASSES;
 
 /// The entry that a list shows at a moment: its index, and when it started. Both moments are in picoseconds.

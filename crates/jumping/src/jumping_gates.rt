@@ -3,16 +3,16 @@ ghost use Rattle.std.specs.Prelude.{All, ◌≡◌, ℕ, ◌+◌, ◌*◌, ◌<�
 ghost use Rattle.std.specs.Option.{ForSome};
 ghost use Rattle.jumping.specs.Words.{greatest_moment, opens, open_while, gates, kept, plan_of, start_of, BeginsAtMost, IsCurrent, entry_count, longest, AreCommands, NoneBy, mask_ahead, settled_at, stretches_of, Stands, Resumes, IsEdge, NothingComes, OneEntryComes, Searched, most_in, IsLoneList, shown_by};
 
-use crate::alone::{search_alone, stays_open_alone};
-use crate::search::search;
-use accepted_commands::{
+use crate::accepted_commands::{
     AcceptedList, CommandSlots, edge_of, installed, lead_moment, legs_ahead, list_in, mask_under,
     resumed, stays_open,
 };
-use gate_list::{Schedule, Visits, is_open};
-use list_config::{Gates, Installed, NotNow};
-use list_position::{Need, Position};
-use queue_heads::Heads;
+use crate::alone::{search_alone, stays_open_alone};
+use crate::list_position::{Need, Position};
+use crate::search::search;
+use gates::gate_list::{Schedule, Visits, is_open};
+use gates::list_config::{Gates, Installed, NotNow};
+use gates::queue_heads::Heads;
 use std::marker::Model;
 use wire_time::CLASSES;
 
@@ -31,11 +31,11 @@ pub struct Jumping {
 
 /// A contract sees the history that the commands make, and the moment.
 impl Model for Jumping {
-    ghost use Rattle.accepted_commands.specs.Commands.{AreCommands};
+    ghost use Rattle.jumping.specs.Commands.{AreCommands};
     ghost use Rattle.std.specs.Prelude.{◌≡◌};
-    ghost use Rattle.accepted_commands.specs.InForce.{Stands, clocked, shown_by};
-    ghost use Rattle.list_config.specs.Current.{Clocked};
-    ghost use Rattle.accepted_commands.specs.Resume.{Resumes};
+    ghost use Rattle.jumping.specs.InForce.{Stands, clocked, shown_by};
+    ghost use Rattle.gates.specs.Current.{Clocked};
+    ghost use Rattle.jumping.specs.Resume.{Resumes};
     ghost use Rattle.jumping.specs.Edge.{IsEdge};
 
     ghost Value = { Clocked };
@@ -198,7 +198,7 @@ impl Gates for Jumping {
 
     const JUMPS: bool = true;
 
-    #[tactic(auto, using(accepted_commands::proofs::CommandLaws::current_of))]
+    #[tactic(auto, using(crate::proofs::CommandLaws::current_of))]
     fn begin() -> Jumping {
         Jumping {
             slots: CommandSlots::begin(),
@@ -212,7 +212,7 @@ impl Gates for Jumping {
         self.slots.moment()
     }
 
-    #[tactic(auto, using(accepted_commands::proofs::CommandLaws::position_shows))]
+    #[tactic(auto, using(crate::proofs::CommandLaws::position_shows))]
     fn mask(&self) -> u8 {
         self.mask
     }
@@ -271,7 +271,7 @@ impl Gates for Jumping {
         }
     }
 
-    #[tactic(auto, using(accepted_commands::proofs::CommandLaws::current_of, list_config::proofs::HistoryLaws::settled_announced, list_config::proofs::HistoryLaws::cons_some_push))]
+    #[tactic(auto, using(crate::proofs::CommandLaws::current_of, gates::proofs::HistoryLaws::settled_announced, gates::proofs::HistoryLaws::cons_some_push))]
     fn install(&mut self, schedule: &Schedule, lead: u128) -> Result<u128, NotNow> {
         if let Some(waited) = lead_moment(self.slots.announced()) {
             return Err(NotNow::Busy(waited));
@@ -283,7 +283,7 @@ impl Gates for Jumping {
         Ok(change)
     }
 
-    #[tactic(auto, using(accepted_commands::proofs::CommandLaws::current_of, list_config::proofs::HistoryLaws::settled_announced, list_config::proofs::HistoryLaws::cons_some_push))]
+    #[tactic(auto, using(crate::proofs::CommandLaws::current_of, gates::proofs::HistoryLaws::settled_announced, gates::proofs::HistoryLaws::cons_some_push))]
     fn delete(&mut self, lead: u128) -> Result<u128, NotNow> {
         if let Some(waited) = lead_moment(self.slots.announced()) {
             return Err(NotNow::Busy(waited));
@@ -294,17 +294,17 @@ impl Gates for Jumping {
         Ok(lead)
     }
 
-    #[tactic(auto, using(list_config::proofs::HistoryLaws::settled_force))]
+    #[tactic(auto, using(gates::proofs::HistoryLaws::settled_force))]
     fn in_force(&self) -> Option<Installed> {
         installed(self.slots.in_force())
     }
 
-    #[tactic(auto, using(list_config::proofs::HistoryLaws::settled_pending))]
+    #[tactic(auto, using(gates::proofs::HistoryLaws::settled_pending))]
     fn pending(&self) -> Option<Installed> {
         installed(self.slots.pending())
     }
 
-    #[tactic(auto, using(list_config::proofs::HistoryLaws::settled_announced))]
+    #[tactic(auto, using(gates::proofs::HistoryLaws::settled_announced))]
     fn announced(&self) -> Option<Installed> {
         installed(self.slots.announced())
     }

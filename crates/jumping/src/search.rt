@@ -3,10 +3,10 @@ ghost use Rattle.std.specs.Prelude.{◌≡◌, ℕ, ◌+◌, ◌-◌, ◌*◌, �
 ghost use Rattle.std.specs.Option.{ForSome};
 ghost use Rattle.jumping.specs.Words.{greatest_moment, IsSchedule, has_come, in_ps, mask_since, opens, open_while, mask_in, mask_of, end_of, IsFlat, IsPlaced, boundary_in, Listed, AreReady, DoFollow, IsReady, stretch_in, from_of, lent_leg, lent_rest, until_of, stretch_of, stretches_ahead, Fits, IsSearch, Searched, up_to, most_visits, most_in};
 
-use accepted_commands::{Leg, ListedLeg, Rest};
-use gate_list::Visits;
-use list_position::{Need, Position};
-use queue_heads::Heads;
+use crate::accepted_commands::{Leg, ListedLeg, Rest};
+use crate::list_position::{Need, Position};
+use gates::gate_list::Visits;
+use gates::queue_heads::Heads;
 use wire_time::CLASSES;
 
 /// Whether some class with a need, in picoseconds, stays open through it from a leg on.

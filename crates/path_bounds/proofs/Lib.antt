@@ -1,4 +1,4 @@
-pub mod PickLaws
 pub mod PassLaws
+pub mod PickLaws
 pub mod StartLaws
 pub mod StepLaws

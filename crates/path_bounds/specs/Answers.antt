@@ -5,7 +5,7 @@
 use Rattle.std.specs.Prelude.{◌≡◌, ℕ, ◌+◌, ◌-◌, ◌*◌, zero, suc, ◌&&◌, ◌||◌, nat_lt, not, Bool, true, false, List, [], ◌∷◌, filter, length, map, Option, Some, None, is_some, slice_get, slice_index_or, unwrap_or, if◌then◌else◌}
 use Rattle.std.specs.List.{list_any}
 use Rattle.abstract_port.specs.AbstractPort.{plan_asked}
-use Rattle.gate_list.specs.Gate.{Plan, keeps_apart}
+use Rattle.gates.specs.Gate.{Plan, keeps_apart}
 use Rattle.shared_bounds.specs.Sharing.{Share}
 use Rattle.stream_bounds.specs.Classes.{has_any}
 use Rattle.stream_bounds.specs.Standing.{standing_of}

@@ -1,4 +1,4 @@
-pub mod Hops
-pub mod Start
 pub mod Answers
+pub mod Hops
 pub mod Judged
+pub mod Start

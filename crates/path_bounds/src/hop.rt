@@ -6,7 +6,7 @@ ghost use Rattle.stream_bounds.specs.Classes.{IsPeriodic};
 
 use abstract_port::Change;
 use delay_bounds::Bound;
-use gate_list::Schedule;
+use gates::gate_list::Schedule;
 use stream_bounds::{BoundsSettings, needs_of, plus};
 use traffic::{Stream, earliest};
 use wire_time::{MAX_MOMENT, Rate};

@@ -10,7 +10,7 @@ ghost use Rattle.wire_time.specs.declared.TheConstants.{CLASSES};
 
 use crate::hop::{Hop, PathPort};
 use crate::tables::{is_at, is_awaited, is_own, is_unknown, own_of};
-use gate_list::Schedule;
+use gates::gate_list::Schedule;
 use shared_bounds::sharing::shares_windows;
 use std::alloc::Global;
 use stream_bounds::{BoundsFault, Standing, Verdict, standing_of};

@@ -5,7 +5,7 @@ use Rattle.std.proofs.lemmas.Nat.{mul-le}
 use Rattle.std.proofs.lemmas.Option.{same_Some}
 use Rattle.wire_time.specs.Moment.{greatest_moment}
 use Rattle.wire_time.specs.Wire.{occupancy_of, wire_octets}
-use Rattle.gate_list.specs.Gate.{Plan, in_ps, keeps_apart}
+use Rattle.gates.specs.Gate.{Plan, in_ps, keeps_apart}
 use Rattle.abstract_port.specs.AbstractPort.{plan_asked}
 use Rattle.delay_bounds.specs.Walk.{may_by}
 use Rattle.delay_bounds.specs.declared.Bound.{Bound}
@@ -31,8 +31,8 @@ use Rattle.path_bounds.specs.Hops.{entry_by, entry_of, moved, moved_offset, spre
 use Rattle.path_bounds.specs.declared.hop.Hop.{Hop}
 use Rattle.path_bounds.specs.declared.hop.PathPort.{PathPort}
 use Rattle.path_bounds.specs.declared.hop.Span.{Span}
-use Rattle.network_claim.specs.Network.{Hop as NetworkHop, Network, NetworkPort, NetworkStream}
-use Rattle.network_claim.specs.Promise.{IsByCurve, IsByWindows, flow_at, need_at, talker_at}
+use Rattle.claims.specs.Network.{Hop as NetworkHop, Network, NetworkPort, NetworkStream}
+use Rattle.claims.specs.Promise.{IsByCurve, IsByWindows, flow_at, need_at, talker_at}
 use Rattle.path_claim.specs.Apart.{ApartLaw}
 use Rattle.path_claim.specs.Told.{AreHopsTold, IsHopTold, bound_told, port_told}
 use Rattle.path_claim.specs.Windows.{longest_wait}

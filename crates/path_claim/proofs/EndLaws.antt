@@ -7,8 +7,8 @@ use Rattle.path_bounds.specs.Hops.{greatest_of}
 use Rattle.path_bounds.specs.Judged.{Known}
 use Rattle.path_bounds.specs.declared.hop.Hop.{Hop}
 use Rattle.path_bounds.specs.declared.hop.PathPort.{PathPort}
-use Rattle.network_claim.specs.Network.{Hop as NetworkHop, Network, NetworkPort, NetworkStream}
-use Rattle.network_claim.specs.Promise.{need_at}
+use Rattle.claims.specs.Network.{Hop as NetworkHop, Network, NetworkPort, NetworkStream}
+use Rattle.claims.specs.Promise.{need_at}
 use Rattle.path_claim.specs.Ends.{EndLaw, first_end, last_end}
 use Rattle.path_claim.specs.Networks.{IsHopAt}
 use Rattle.path_claim.specs.Told.{port_told}

@@ -1,10 +1,10 @@
-mod WindowLaws
-mod TakenLaws
-mod ApartLaws
-mod LinkedLaws
 mod AnsweredLaws
+mod ApartLaws
 mod EarlierLaws
-mod ToldLaws
-mod SoundLaws
-mod PathLaws
 mod EndLaws
+mod LinkedLaws
+mod PathLaws
+mod SoundLaws
+mod TakenLaws
+mod ToldLaws
+mod WindowLaws

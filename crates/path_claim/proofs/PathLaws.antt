@@ -1,7 +1,7 @@
 -- The classes of a network of which all is told keep time.
 use Rattle.std.proofs.Common.{◌≡◌, ◌⊎◌, inl, inr, ℕ, zero, suc, ◌+◌, ◌&&◌, nat_le, Bool, true, false, cond, List, [], ◌∷◌, length, map, Some, Result, Ok, Err, slice_get, refl, sym, ap, ◌∙◌, subst, arith}
 use Rattle.std.proofs.lemmas.Option.{none-some, same_Some}
-use Rattle.gate_list.specs.Gate.{Plan, keeps_apart}
+use Rattle.gates.specs.Gate.{Plan, keeps_apart}
 use Rattle.abstract_port.specs.AbstractPort.{plan_asked}
 use Rattle.abstract_port.specs.declared.Dropped.{Dropped}
 use Rattle.delay_bounds.specs.declared.Bound.{Bound}
@@ -28,10 +28,10 @@ use Rattle.path_bounds.specs.declared.hop.Hop.{Hop}
 use Rattle.path_bounds.specs.declared.hop.PathPort.{PathPort}
 use Rattle.path_bounds.specs.declared.hop.Span.{Span}
 use Rattle.path_bounds.specs.declared.standings.PairVerdict.TheVariants as PairVerdicts
-use Rattle.network_claim.specs.Network.{Hop as NetworkHop, Network, NetworkPort}
-use Rattle.network_claim.specs.NetworkClaim.{IsJudged, NetworkClaim}
-use Rattle.network_claim.specs.Priority.{IsByPriority}
-use Rattle.network_claim.specs.Promise.{IsByCurve, IsByWindows}
+use Rattle.claims.specs.Network.{Hop as NetworkHop, Network, NetworkPort}
+use Rattle.claims.specs.NetworkClaim.{IsJudged, NetworkClaim}
+use Rattle.claims.specs.Priority.{IsByPriority}
+use Rattle.claims.specs.Promise.{IsByCurve, IsByWindows}
 use Rattle.path_claim.specs.Answered.{AreGiven, IsAnswered, IsKnownSo, own_hops}
 use Rattle.path_claim.specs.PathClaim.{AreHopsAs, IsHopAs, PathClaim}
 use Rattle.path_claim.specs.Sent.{IsSound}

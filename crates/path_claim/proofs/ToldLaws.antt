@@ -11,8 +11,8 @@ use Rattle.path_bounds.specs.declared.hop.Coming.{Coming}
 use Rattle.path_bounds.specs.declared.hop.Hop.{Hop}
 use Rattle.path_bounds.specs.declared.hop.PathPort.{PathPort}
 use Rattle.path_bounds.specs.declared.hop.Span.{Span}
-use Rattle.network_claim.specs.Network.{Hop as NetworkHop, Link, Network, NetworkPort, NetworkStream}
-use Rattle.network_claim.specs.NetworkClaim.{FollowsFrom, IsTold}
+use Rattle.claims.specs.Network.{Hop as NetworkHop, Link, Network, NetworkPort, NetworkStream}
+use Rattle.claims.specs.NetworkClaim.{FollowsFrom, IsTold}
 use Rattle.path_claim.specs.Earlier.{AreLater, IsLater}
 use Rattle.path_claim.specs.Linked.{AreLinked, IsFrom, IsLinked, IsWindow}
 use Rattle.path_claim.specs.Networks.{AreSmall, IsHopAt, IsNetworkOf, IsPassedBy, ToldLaw}

@@ -1,7 +1,7 @@
 -- What is told of a class in the end is what was when the class was judged: its hops, their windows and bounds, and its answer.
 use Rattle.std.specs.List.{list_any}
 use Rattle.std.specs.Prelude.{◌≡◌, ◌⊎◌, ℕ, ◌+◌, false, List, [], ◌∷◌, filter, map, Some, slice_get}
-use Rattle.gate_list.specs.Gate.{keeps_apart}
+use Rattle.gates.specs.Gate.{keeps_apart}
 use Rattle.abstract_port.specs.AbstractPort.{plan_asked}
 use Rattle.delay_bounds.specs.declared.Bound.{Bound}
 use Rattle.stream_bounds.specs.Verdicts.{ClassAnswer, unbounded}

@@ -3,7 +3,7 @@
 -- It counts from the nominal moment, by the clock of the port, with the gap behind the frame. Times are in picoseconds.
 use Rattle.std.specs.Prelude.{◌≡◌, ◌<◌, ◌≤◌, ℕ, ◌+◌, ◌-◌, ◌^◌, List, Some, slice_get}
 use Rattle.abstract_port.specs.declared.Start.{Start}
-use Rattle.separation.specs.Traffic.{Came}
+use Rattle.abstract_port.specs.Traffic.{Came}
 use Rattle.delay_bounds.specs.declared.Bound.{Bound}
 use Rattle.stream_bounds.specs.Verdicts.{needs_of, plus}
 use Rattle.traffic.specs.declared.table.Stream.{Stream}
@@ -12,8 +12,8 @@ use Rattle.path_bounds.specs.Judged.{Known}
 use Rattle.path_bounds.specs.declared.hop.Hop.{Hop}
 use Rattle.path_bounds.specs.declared.hop.PathPort.{PathPort}
 use Rattle.path_bounds.specs.declared.hop.Span.{Span}
-use Rattle.network_claim.specs.Network.{Hop as NetworkHop, IsNumbered, Network, PortRun, started_at, zero_at}
-use Rattle.network_claim.specs.NetworkClaim.{KeepsTime}
+use Rattle.claims.specs.Network.{Hop as NetworkHop, IsNumbered, Network, PortRun, started_at, zero_at}
+use Rattle.claims.specs.NetworkClaim.{KeepsTime}
 use Rattle.path_claim.specs.Networks.{IsHopAt}
 use Rattle.path_claim.specs.Told.{port_told}
 

@@ -1,10 +1,10 @@
-pub mod Windows
-pub mod Told
-pub mod Apart
-pub mod Linked
 pub mod Answered
+pub mod Apart
 pub mod Earlier
-pub mod Networks
-pub mod Sent
-pub mod PathClaim
 pub mod Ends
+pub mod Linked
+pub mod Networks
+pub mod PathClaim
+pub mod Sent
+pub mod Told
+pub mod Windows

@@ -12,8 +12,8 @@ use Rattle.path_bounds.specs.declared.hop.Hop.{Hop}
 use Rattle.path_bounds.specs.declared.hop.PathPort.{PathPort}
 use Rattle.path_bounds.specs.declared.hop.Span.{Span}
 use Rattle.path_bounds.specs.declared.start.WayHop.{WayHop}
-use Rattle.network_claim.specs.Network.{Hop as NetworkHop, Link, Network}
-use Rattle.network_claim.specs.NetworkClaim.{IsTold}
+use Rattle.claims.specs.Network.{Hop as NetworkHop, Link, Network}
+use Rattle.claims.specs.NetworkClaim.{IsTold}
 use Rattle.path_claim.specs.Told.{bound_told, port_told, stream_told}
 use Rattle.path_claim.specs.Windows.{IsFar, IsNear}
 

@@ -1,6 +1,6 @@
 -- The claim for what is told of the ways of streams: in every run of a network of which all is told, the classes that are judged keep time.
 use Rattle.std.specs.Prelude.{◌≡◌, ◌<◌, ℕ, ◌-◌, ◌^◌, true, false, List, [], ◌∷◌, Some}
-use Rattle.gate_list.specs.Gate.{keeps_apart}
+use Rattle.gates.specs.Gate.{keeps_apart}
 use Rattle.delay_bounds.specs.declared.Bound.{Bound}
 use Rattle.path_bounds.specs.Judged.{AreJudged, Known, unjudged}
 use Rattle.path_bounds.specs.Start.{start_hops}
@@ -9,9 +9,9 @@ use Rattle.path_bounds.specs.declared.hop.Hop.{Hop}
 use Rattle.path_bounds.specs.declared.hop.PathPort.{PathPort}
 use Rattle.path_bounds.specs.declared.hop.Span.{Span}
 use Rattle.path_bounds.specs.declared.start.WayHop.{WayHop}
-use Rattle.network_claim.specs.Network.{Hop as NetworkHop, IsNetworkRun, Network, PortRun}
-use Rattle.network_claim.specs.NetworkClaim.{KeepsTime}
-use Rattle.network_claim.specs.Priority.{IsByPriority}
+use Rattle.claims.specs.Network.{Hop as NetworkHop, IsNetworkRun, Network, PortRun}
+use Rattle.claims.specs.NetworkClaim.{KeepsTime}
+use Rattle.claims.specs.Priority.{IsByPriority}
 use Rattle.path_claim.specs.Answered.{own_hops}
 use Rattle.path_claim.specs.Networks.{AreSmall, IsNetworkOf}
 use Rattle.path_claim.specs.Sent.{AreSent}

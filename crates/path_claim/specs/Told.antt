@@ -11,7 +11,7 @@ use Rattle.path_bounds.specs.declared.hop.Coming.TheVariants as Comings
 use Rattle.path_bounds.specs.declared.hop.Hop.{Hop}
 use Rattle.path_bounds.specs.declared.hop.PathPort.{PathPort}
 use Rattle.path_bounds.specs.declared.hop.Span.{Span}
-use Rattle.network_claim.specs.Network.{Hop as NetworkHop, Network, NetworkPort, NetworkStream}
+use Rattle.claims.specs.Network.{Hop as NetworkHop, Network, NetworkPort, NetworkStream}
 use Rattle.path_claim.specs.Windows.{longest_wait}
 
 -- 1. One by one

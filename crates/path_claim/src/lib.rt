@@ -66,7 +66,7 @@ pub fn sound_law()
 pub fn path_claim()
     ensures { PathClaim }
 {
-    network_claim::claims();
+    claims::network_claim::claims();
 }
 
 /// Each frame of a hop that is told, of a class that keeps time, has ended as is told of the end of its way.

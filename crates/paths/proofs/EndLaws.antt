@@ -9,20 +9,20 @@ use Rattle.job.specs.Outcome.{Outcome, Runs, RunsOut}
 use Rattle.job.specs.RunEnd.{IsOrFails}
 use Rattle.job.specs.declared.fault.Fault.{Fault}
 use Rattle.job.specs.declared.fault.Fault.TheVariants as Faults
-use Rattle.line_reader.specs.Script.{Script, script_of}
-use Rattle.network_table.specs.Network.{Net, network_of}
-use Rattle.network_table.specs.Reads.{Reads, Takes, seen}
-use Rattle.network_table.specs.declared.faults.BadNetwork.{BadNetwork}
-use Rattle.network_table.specs.declared.network.Network.{Network}
-use Rattle.octet_writer.proofs.Fronts.{Appends-nil}
-use Rattle.octet_writer.specs.Writes.{FallsShort}
+use Rattle.text.specs.Script.{Script, script_of}
+use Rattle.network.specs.Network.{Net, network_of}
+use Rattle.network.specs.Reads.{Reads, Takes, seen}
+use Rattle.network.specs.declared.network_table.faults.BadNetwork.{BadNetwork}
+use Rattle.network.specs.declared.network_table.contents.Network.{Network}
+use Rattle.text.proofs.Fronts.{Appends-nil}
+use Rattle.text.specs.Writes.{FallsShort}
 use Rattle.path_bounds.specs.Judged.{Known}
 use Rattle.path_bounds.specs.declared.hop.PathPort.{PathPort}
-use Rattle.port_schedules.specs.Schedules.{schedules_from}
-use Rattle.port_schedules.specs.declared.faults.BadSchedules.{BadSchedules}
-use Rattle.port_schedules.specs.declared.schedules.PortSchedule.{PortSchedule}
+use Rattle.network.specs.Schedules.{schedules_from}
+use Rattle.network.specs.declared.port_schedules.faults.BadSchedules.{BadSchedules}
+use Rattle.network.specs.declared.port_schedules.schedules.PortSchedule.{PortSchedule}
 use Rattle.stream_bounds.specs.declared.settings.BoundsSettings.{BoundsSettings}
-use Rattle.tc_reader.specs.declared.fault.TcFault.{TcFault}
+use Rattle.port_text.specs.declared.tc_reader.fault.TcFault.{TcFault}
 use Rattle.paths.specs.Faults.{network_fault, schedules_fault}
 use Rattle.paths.specs.Findings.{found_in}
 use Rattle.paths.specs.Order.{port_order}

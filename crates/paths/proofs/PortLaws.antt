@@ -4,15 +4,15 @@ use Rattle.std.proofs.lemmas.Bool.{lt-ltb, ne_eqb}
 use Rattle.std.proofs.lemmas.List.Elements.{All-head, All-tail}
 use Rattle.std.specs.List.{list_any}
 use Rattle.std.specs.Prelude.{IfErr}
-use Rattle.gate_list.proofs.GateLaws.{no_gate_fault}
-use Rattle.gate_list.specs.Gate.{IsGateList, gate_fault, ok_unless}
-use Rattle.gate_list.specs.declared.Entry.{Entry}
+use Rattle.gates.proofs.GateLaws.{no_gate_fault}
+use Rattle.gates.specs.Gate.{IsGateList, gate_fault, ok_unless}
+use Rattle.gates.specs.declared.gate_list.Entry.{Entry}
 use Rattle.std.proofs.lemmas.List.{at_drop_all, at_drop_more, length-append}
 use Rattle.job.specs.declared.fault.Fault.{Fault}
 use Rattle.job.specs.declared.fault.Fault.TheVariants as Faults
-use Rattle.network_table.specs.Network.{Net}
+use Rattle.network.specs.Network.{Net}
 use Rattle.path_bounds.specs.declared.hop.PathPort.{PathPort}
-use Rattle.port_schedules.specs.declared.schedules.PortSchedule.{PortSchedule}
+use Rattle.network.specs.declared.port_schedules.schedules.PortSchedule.{PortSchedule}
 use Rattle.stream_bounds.specs.declared.settings.BoundsSettings.{BoundsSettings}
 use Rattle.paths.specs.Order.{port_order, with_judged, with_port, with_rest}
 use Rattle.paths.specs.Ports.{IsWhy, made_at, port_count, ports_from, ports_in, with_made}

@@ -1,9 +1,9 @@
 -- The ports of a way, and ways, one after another.
 use Rattle.std.proofs.Common.{◌≡◌, ◌<◌, ◌≤◌, ℕ, ◌+◌, List, [], ◌∷◌, ◌++◌, Option, Some, None, length, drop, get_or, refl, sym, ap, ◌∙◌}
 use Rattle.std.proofs.lemmas.List.{at_drop_all, at_drop_more}
-use Rattle.network_table.specs.Network.{Net}
-use Rattle.network_table.specs.declared.network.NetworkLink.{NetworkLink}
-use Rattle.network_table.specs.declared.network.NetworkStream.{NetworkStream}
+use Rattle.network.specs.Network.{Net}
+use Rattle.network.specs.declared.network_table.contents.NetworkLink.{NetworkLink}
+use Rattle.network.specs.declared.network_table.contents.NetworkStream.{NetworkStream}
 use Rattle.path_bounds.specs.declared.start.WayHop.{WayHop}
 use Rattle.traffic.specs.declared.table.Stream.{Stream}
 use Rattle.paths.specs.Ways.{is_periodic, short, times_by, way_from, way_hop, ways_from, ways_with}

@@ -2,17 +2,17 @@
 use Rattle.std.specs.Prelude.{List, ℕ, [], ◌∷◌, ◌++◌, Option, Some, None, codes, decimal}
 use Rattle.std.specs.List.{concat}
 use Rattle.abstract_port.specs.declared.Refused.{Refused}
-use Rattle.answer_text.specs.Lines.{refused_line}
+use Rattle.port_text.specs.AnswerLines.{refused_line}
 use Rattle.job.specs.Report.{Telling}
 use Rattle.job.specs.declared.fault.Fault.{Fault}
 use Rattle.job.specs.declared.fault.Fault.TheVariants as Faults
 use Rattle.job.specs.declared.kind.FaultKind.{FaultKind}
 use Rattle.job.specs.declared.kind.FaultKind.TheVariants as Kinds
 use Rattle.job.specs.declared.kind.ValueKind.TheVariants as Options
-use Rattle.network_table.specs.Faults.{network_kind, network_text}
-use Rattle.network_table.specs.declared.faults.BadNetwork.{BadNetwork}
-use Rattle.port_schedules.specs.Faults.{schedules_kind, schedules_text}
-use Rattle.port_schedules.specs.declared.faults.BadSchedules.{BadSchedules}
+use Rattle.network.specs.Faults.{network_kind, network_text}
+use Rattle.network.specs.declared.network_table.faults.BadNetwork.{BadNetwork}
+use Rattle.network.specs.ScheduleFaults.{schedules_kind, schedules_text}
+use Rattle.network.specs.declared.port_schedules.faults.BadSchedules.{BadSchedules}
 use Rattle.paths.specs.declared.faults.PathsFinding.{PathsFinding}
 use Rattle.paths.specs.declared.faults.PathsFinding.TheVariants as Findings
 use Rattle.paths.specs.declared.faults.PathsInput.{PathsInput}

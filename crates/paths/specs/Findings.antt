@@ -1,8 +1,8 @@
 -- What a strict run finds about classes, and what it finds first of all.
 use Rattle.std.specs.Prelude.{ℕ, zero, suc, ◌+◌, ◌*◌, false, List, [], ◌∷◌, length, slice_get, Option, Some, None}
-use Rattle.network_table.specs.Network.{Net}
-use Rattle.network_table.specs.declared.network.NetworkStream.{NetworkStream}
-use Rattle.port_schedules.specs.declared.schedules.PortSchedule.{PortSchedule}
+use Rattle.network.specs.Network.{Net}
+use Rattle.network.specs.declared.network_table.contents.NetworkStream.{NetworkStream}
+use Rattle.network.specs.declared.port_schedules.schedules.PortSchedule.{PortSchedule}
 use Rattle.path_bounds.specs.Answers.{pair_of, verdict_at}
 use Rattle.path_bounds.specs.Judged.{Known, class_in, port_in}
 use Rattle.path_bounds.specs.declared.hop.PathPort.{PathPort}

@@ -3,12 +3,12 @@ use Rattle.std.specs.Prelude.{ℕ, List, Option, Some, None, Result, Ok, Err, If
 use Rattle.abstract_port.specs.declared.Command.{Command}
 use Rattle.job.specs.RunEnd.{IsLetOut, IsRunEnding}
 use Rattle.job.specs.declared.report.Ended.{Ended}
-use Rattle.line_reader.specs.Script.{script_of}
+use Rattle.text.specs.Script.{script_of}
 use Rattle.paths.specs.Faults.{paths_telling}
 use Rattle.paths.specs.Outcome.{IsRunOut}
 use Rattle.stream_bounds.specs.declared.settings.BoundsSettings.{BoundsSettings}
-use Rattle.tc_reader.specs.Reader.{IsReader}
-use Rattle.tc_reader.specs.declared.fault.TcFault.{TcFault}
+use Rattle.port_text.specs.Reader.{IsReader}
+use Rattle.port_text.specs.declared.tc_reader.fault.TcFault.{TcFault}
 
 -- The end of a run: what the writer got, with what no write let out, is what is to be written for the octets of the network and of the schedules,
 -- or after a fault of a call's a prefix of it.

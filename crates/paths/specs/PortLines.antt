@@ -1,7 +1,7 @@
 -- What is told of ports: the name, what is taken for granted, and the verdict about each class that has streams; and of circles.
 use Rattle.std.specs.Prelude.{ℕ, zero, suc, ◌+◌, ◌&&◌, ◌||◌, not, Bool, false, List, [], ◌∷◌, ◌++◌, slice_get, slice_index_or, Option, Some, None, is_some, decimal, codes, if◌then◌else◌}
 use Rattle.std.specs.List.{concat}
-use Rattle.network_table.specs.Network.{name_at}
+use Rattle.network.specs.Network.{name_at}
 use Rattle.stream_bounds.specs.BoundLines.{class_line, premise_lines, word_line}
 use Rattle.path_bounds.specs.Answers.{has_own, pair_of, verdict_at}
 use Rattle.path_bounds.specs.Judged.{Known, class_in, port_in}

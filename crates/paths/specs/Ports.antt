@@ -5,10 +5,10 @@
 -- one for all of them (IEEE Std 802.1Q-2018, 8.6.9.3). Times are in picoseconds.
 use Rattle.std.specs.Prelude.{ℕ, zero, suc, ◌+◌, ◌-◌, ◌*◌, ◌%◌, ◌^◌, ◌≡◌, ⊤, ◌==◌, nat_lt, min, max, List, [], ◌∷◌, ◌++◌, length, find, Option, Some, None, Result, Ok, Err, unwrap_or, if◌then◌else◌}
 use Rattle.wire_time.specs.Moment.{greatest_moment}
-use Rattle.class_map.specs.Map.{map_of}
-use Rattle.class_map.specs.declared.ClassMap.{ClassMap}
-use Rattle.gate_list.specs.Gate.{Plan, in_ps}
-use Rattle.gate_list.specs.declared.Entry.{Entry}
+use Rattle.abstract_port.specs.Map.{map_of}
+use Rattle.abstract_port.specs.declared.class_map.ClassMap.{ClassMap}
+use Rattle.gates.specs.Gate.{Plan, in_ps}
+use Rattle.gates.specs.declared.gate_list.Entry.{Entry}
 use Rattle.abstract_port.specs.AbstractPort.{plan_asked}
 use Rattle.abstract_port.specs.declared.Change.{Change}
 use Rattle.abstract_port.specs.declared.Refused.{Refused}
@@ -20,12 +20,12 @@ use Rattle.script.specs.Setup.{Setup}
 use Rattle.script.specs.declared.settings.BadValue.{BadValue}
 use Rattle.stream_bounds.specs.Classes.{refusal_of}
 use Rattle.stream_bounds.specs.declared.settings.BoundsSettings.{BoundsSettings}
-use Rattle.network_table.specs.Network.{Net, first_of}
-use Rattle.network_table.specs.declared.network.Clocks.{Clocks}
-use Rattle.network_table.specs.declared.network.PortSetting.{PortSetting}
-use Rattle.network_table.specs.declared.said.PortValues.{PortValues}
-use Rattle.port_schedules.specs.Schedules.{has_port}
-use Rattle.port_schedules.specs.declared.schedules.PortSchedule.{PortSchedule}
+use Rattle.network.specs.Network.{Net, first_of}
+use Rattle.network.specs.declared.network_table.contents.Clocks.{Clocks}
+use Rattle.network.specs.declared.network_table.contents.PortSetting.{PortSetting}
+use Rattle.network.specs.declared.network_table.said.PortValues.{PortValues}
+use Rattle.network.specs.Schedules.{has_port}
+use Rattle.network.specs.declared.port_schedules.schedules.PortSchedule.{PortSchedule}
 use Rattle.path_bounds.specs.declared.hop.PathPort.{PathPort}
 use Rattle.paths.specs.declared.faults.PathsInput.{PathsInput}
 use Rattle.paths.specs.declared.faults.PathsInput.TheVariants as Inputs

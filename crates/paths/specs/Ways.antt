@@ -1,9 +1,9 @@
 -- The ways of a network's streams: one port after another, with the times of the links between them.
 use Rattle.std.specs.Prelude.{ℕ, ◌≡◌, ◌+◌, ◌-◌, ◌^◌, ◌==◌, ◌&&◌, nat_lt, nat_le, not, min, Bool, true, false, List, [], ◌∷◌, ◌++◌, Option, Some, None, is_some, if◌then◌else◌}
 use Rattle.wire_time.specs.Moment.{greatest_moment}
-use Rattle.network_table.specs.Network.{Net, first_of, part}
-use Rattle.network_table.specs.declared.network.NetworkLink.{NetworkLink}
-use Rattle.network_table.specs.declared.network.NetworkStream.{NetworkStream}
+use Rattle.network.specs.Network.{Net, first_of, part}
+use Rattle.network.specs.declared.network_table.contents.NetworkLink.{NetworkLink}
+use Rattle.network.specs.declared.network_table.contents.NetworkStream.{NetworkStream}
 use Rattle.traffic.specs.Table.{earliest}
 use Rattle.traffic.specs.declared.table.Stream.{Stream}
 use Rattle.path_bounds.specs.declared.start.WayHop.{WayHop}

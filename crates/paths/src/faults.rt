@@ -1,14 +1,14 @@
 //! Why a run ends early, what a strict run stops for, and the texts that say so.
 
 ghost use Rattle.std.specs.Prelude.{◌≡◌};
-ghost use Rattle.octet_writer.specs.Writes.{Writes};
+ghost use Rattle.text.specs.Writes.{Writes};
 ghost use Rattle.paths.specs.Faults.{class_end, class_found, finding_kind, found_text, network_fault, paths_kind, paths_telling, port_text, refusal_head, refusal_text, schedules_fault, stream_found};
 
 use abstract_port::Refused;
-use answer_text::{Part, WriteFault, put, put_parts, put_refused};
 use job::{Fault, FaultKind, InputFault, ValueKind};
-use network_table::{BadNetwork, Name, NetworkRunFault};
-use port_schedules::{BadSchedules, SchedulesRunFault};
+use network::network_table::{BadNetwork, Name, NetworkRunFault};
+use network::port_schedules::{BadSchedules, SchedulesRunFault};
+use port_text::answer_text::{Part, WriteFault, put, put_parts, put_refused};
 use std::io::Write;
 use thiserror::Error;
 

@@ -1,16 +1,16 @@
 //! What a strict run finds about classes, and what it finds first of all.
 
 ghost use Rattle.std.specs.Prelude.{◌≡◌, ◌≤◌, length};
-ghost use Rattle.network_table.specs.Reads.{seen};
+ghost use Rattle.network.specs.Reads.{seen};
 ghost use Rattle.paths.specs.Findings.{found_in, no_schedule, no_stream, pair_finding, pairs_finding, verdict_finding, word_finding};
 ghost use Rattle.paths.specs.declared.ports.TheConstants.{MOST_NETWORK_PORTS};
 
 use crate::faults::PathsFinding;
 use crate::path_lines::{find_path, first_of};
 use crate::ports::MOST_NETWORK_PORTS;
-use network_table::{Name, Network, NetworkStream};
+use network::network_table::{Name, Network, NetworkStream};
+use network::port_schedules::PortSchedule;
 use path_bounds::{Judgement, PairVerdict, PathPort, verdict_at};
-use port_schedules::PortSchedule;
 use std::alloc::Global;
 use stream_bounds::Verdict;
 

@@ -2,16 +2,16 @@
 
 ghost use Rattle.std.specs.Prelude.{◌≡◌, ◌≤◌, [], All, IfOk, IfSome, List, Result, length, ℕ};
 ghost use Rattle.abstract_port.specs.declared.Command.{Command};
-ghost use Rattle.line_reader.specs.LineReader.{script_left};
-ghost use Rattle.line_reader.specs.Script.{script_of};
-ghost use Rattle.network_table.specs.Reads.{seen};
-ghost use Rattle.octet_writer.specs.Writes.{Writes};
+ghost use Rattle.text.specs.LineReader.{script_left};
+ghost use Rattle.text.specs.Script.{script_of};
+ghost use Rattle.network.specs.Reads.{seen};
+ghost use Rattle.text.specs.Writes.{Writes};
 ghost use Rattle.path_bounds.specs.Hops.{IsPort};
 ghost use Rattle.paths.specs.Outcome.{AreJudgedOf, IsAnsweredRun, IsEnd, IsLinesRun, IsPortsRun, IsTargetRun, answer_lines, lines_for, target_in, told_if};
 ghost use Rattle.paths.specs.declared.ports.TheConstants.{MOST_NETWORK_PORTS};
 ghost use Rattle.script.specs.Given.{octets_of};
-ghost use Rattle.tc_reader.specs.Reader.{IsReader};
-ghost use Rattle.tc_reader.specs.declared.fault.TcFault.{TcFault};
+ghost use Rattle.port_text.specs.Reader.{IsReader};
+ghost use Rattle.port_text.specs.declared.tc_reader.fault.TcFault.{TcFault};
 
 use crate::faults::{PathsFault, PathsFinding, PathsInput, network_fault, schedules_fault};
 use crate::findings::found_in;
@@ -21,15 +21,15 @@ use crate::path_lines::put_paths;
 use crate::port_lines::{put_cyclic, put_ports};
 use crate::ports::{MOST_NETWORK_PORTS, clocks_of, ports_of};
 use crate::ways::ways_of;
-use answer_text::WriteFault;
-use line_reader::LineReader;
-use network_table::{Name, Network, read_network};
+use network::network_table::{Name, Network, read_network};
+use network::port_schedules::{PortSchedule, read_schedules};
 use path_bounds::{Judgement, PathPort, judge_all, start_hops};
-use port_schedules::{PortSchedule, read_schedules};
+use port_text::answer_text::WriteFault;
 use script::Watch;
 use std::alloc::{AllocError, Allocator, Global};
 use std::io::{Read, Write};
 use stream_bounds::BoundsSettings;
+use text::line_reader::LineReader;
 
 /// What is known of all classes of these ports.
 fn judged(

@@ -1,10 +1,10 @@
 //! The table of the streams that come to a port.
 
-ghost use Rattle.octet_writer.specs.Writes.{Writes};
+ghost use Rattle.text.specs.Writes.{Writes};
 ghost use Rattle.paths.specs.NextLines.{count_text, entry_line, jitter_text, line_end, line_head, next_line, next_lines, offset_text, shortest_text, stream_line, tag_text, unknown_line};
 
-use answer_text::{Part, WriteFault, put, put_parts};
 use path_bounds::{Coming, Hop, is_at, moved};
+use port_text::answer_text::{Part, WriteFault, put, put_parts};
 use std::io::Write;
 use traffic::Stream;
 

@@ -1,15 +1,15 @@
 //! The lines of streams: each hop, and the end of each way.
 
 ghost use Rattle.std.specs.Prelude.{◌≡◌, Some, drop, false, option_copied, slice_get};
-ghost use Rattle.octet_writer.specs.Writes.{Writes};
+ghost use Rattle.text.specs.Writes.{Writes};
 ghost use Rattle.paths.specs.PathLines.{deadline_text, end_by, end_head, end_line, end_of, finding_by, finding_dropped, finding_end, finding_last, finding_unknown, first_of, goes_on, held_by, held_lines, hop_bounds, hop_finding, hop_head, hop_line, hop_lines, is_last, is_reached, last_line, met_of, named, over_at, over_behind, passage_at, passage_by, passage_finding, passage_lines, paths_finding, paths_lines, reached_at, stop_head, stop_line, unmet};
 ghost use Rattle.stream_bounds.specs.BoundLines.{met_word};
 
 use crate::faults::PathsFinding;
-use answer_text::{Part, WriteFault, put, put_parts};
 use delay_bounds::Bound;
-use network_table::Name;
+use network::network_table::Name;
 use path_bounds::{Coming, Hop, PairVerdict, PathPort, Span, greatest_of, verdict_at};
+use port_text::answer_text::{Part, WriteFault, put, put_parts};
 use std::io::Write;
 use stream_bounds::{Met, Verdict, dropped_of, needs_of, plus};
 use traffic::Stream;

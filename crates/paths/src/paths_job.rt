@@ -1,16 +1,16 @@
 //! The program's job: the bounds of streams from end to end.
 
-ghost use Rattle.octet_writer.specs.Buffered.{writer_contents};
+ghost use Rattle.text.specs.Buffered.{writer_contents};
 ghost use Rattle.paths.specs.PathsEnd.{IsPathsEnding};
 ghost use Rattle.script.specs.Given.{octets_of};
 
 use crate::network_lines::paths;
 use job::{Ended, Errors, end_run};
-use octet_writer::BufWriter;
 use script::Watch;
 use std::alloc::{Allocator, Global};
 use std::io::{Read, Write};
 use stream_bounds::BoundsSettings;
+use text::octet_writer::BufWriter;
 
 /// Answers about the network that `network` gives and the schedules that `reader` gives, with these settings and, where
 /// it is asked for, the table of a port, through `answers`, with the text of a fault or of a strict run's finding on

@@ -1,16 +1,16 @@
 //! The lines of ports, and of circles.
 
 ghost use Rattle.std.specs.Prelude.{◌≡◌, ◌<◌, All, Some, slice_get};
-ghost use Rattle.network_table.specs.Network.{name_at};
-ghost use Rattle.octet_writer.specs.Writes.{Writes};
+ghost use Rattle.network.specs.Network.{name_at};
+ghost use Rattle.text.specs.Writes.{Writes};
 ghost use Rattle.path_bounds.specs.Hops.{IsPort};
 ghost use Rattle.paths.specs.PortLines.{circles_line, cyclic_line, cyclic_names, has_cyclic, head_by, is_cyclic, is_quiet, lines_by, pair_line, pair_lines, pair_name, ports_lines, premises_at, quiet_classes, verdict_line};
 ghost use Rattle.stream_bounds.specs.BoundLines.{word_line};
 ghost use Rattle.wire_time.specs.declared.TheConstants.{CLASSES};
 
-use answer_text::{Part, WriteFault, put, put_parts};
-use network_table::Name;
+use network::network_table::Name;
 use path_bounds::{Hop, Judgement, PairVerdict, PathPort, has_own, verdict_at};
+use port_text::answer_text::{Part, WriteFault, put, put_parts};
 use std::io::Write;
 use stream_bounds::{BoundsSettings, put_class, put_premises};
 use wire_time::CLASSES;

@@ -2,8 +2,8 @@
 
 ghost use Rattle.std.specs.Prelude.{◌≡◌, ◌≤◌, ◌++◌, ◌∷◌, [], All, IfErr, IfOk, None, Ok, length};
 ghost use Rattle.job.specs.declared.fault.Fault.TheVariants as Faults;
-ghost use Rattle.network_table.specs.Network.{first_of};
-ghost use Rattle.network_table.specs.Reads.{seen};
+ghost use Rattle.network.specs.Network.{first_of};
+ghost use Rattle.network.specs.Reads.{seen};
 ghost use Rattle.path_bounds.specs.Hops.{IsPort};
 ghost use Rattle.paths.specs.Ports.{IsWhy, clocks_of, lead_in, lead_of, made_at, made_unless, open_change, open_list, open_map, or_setup, port_by, port_count, ports_from, ports_in, settings_at, setup_at, setup_by, since_of, values_of};
 ghost use Rattle.paths.specs.declared.ports.TheConstants.{MOST_NETWORK_PORTS};
@@ -12,12 +12,12 @@ ghost use Rattle.stream_bounds.specs.Classes.{port_before, refusal_of};
 ghost use Rattle.wire_time.specs.Moment.{greatest_moment};
 
 use crate::faults::{PathsFault, PathsInput};
+use abstract_port::class_map::ClassMap;
 use abstract_port::{Change, Refused};
-use class_map::ClassMap;
-use gate_list::{Entry, GateList, Schedule};
-use network_table::{Clocks, Network, PortSetting, PortValues};
+use gates::gate_list::{Entry, GateList, Schedule};
+use network::network_table::{Clocks, Network, PortSetting, PortValues};
+use network::port_schedules::{PortSchedule, schedule_at};
 use path_bounds::PathPort;
-use port_schedules::{PortSchedule, schedule_at};
 use schedule_check::early_refusal;
 use script::Settings;
 use std::alloc::Global;

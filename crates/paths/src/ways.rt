@@ -1,12 +1,12 @@
 //! The ways of a network's streams.
 
 ghost use Rattle.std.specs.Prelude.{◌≡◌, ◌++◌, ◌∷◌, [], All, IfOk, None, true};
-ghost use Rattle.network_table.specs.Network.{first_of};
-ghost use Rattle.network_table.specs.Reads.{seen};
+ghost use Rattle.network.specs.Network.{first_of};
+ghost use Rattle.network.specs.Reads.{seen};
 ghost use Rattle.paths.specs.Ways.{is_periodic, no_times, times_by, times_of, way_from, way_hop, way_of, ways_from, ways_in, ways_with};
 ghost use Rattle.stream_bounds.specs.Classes.{IsPeriodic};
 
-use network_table::{Network, NetworkLink, NetworkStream};
+use network::network_table::{Network, NetworkLink, NetworkStream};
 use path_bounds::WayHop;
 use std::alloc::{AllocError, Global};
 use traffic::{Stream, earliest};

@@ -3,10 +3,10 @@ use Rattle.std.proofs.Common.{◌≡◌, ◌<◌, ◌≤◌, ℕ, zero, suc, ◌
 use Rattle.std.specs.Prelude.{IfSome, filter}
 use Rattle.std.specs.Option.{option_or}
 use Rattle.std.proofs.lemmas.Option.{same_Some}
-use Rattle.list_config.specs.Event.{BeginsEntry, ComesAt}
-use Rattle.list_config.specs.History.{announced, cons_some, in_force, last, only_if, pending, plan_of, start_of}
-use Rattle.list_config.proofs.EventLaws.{any_here, any_later}
-use Rattle.list_config.proofs.HistoryLaws.{kept_force, past_later}
+use Rattle.gates.specs.Event.{BeginsEntry, ComesAt}
+use Rattle.gates.specs.History.{announced, cons_some, in_force, last, only_if, pending, plan_of, start_of}
+use Rattle.gates.proofs.EventLaws.{any_here, any_later}
+use Rattle.gates.proofs.HistoryLaws.{kept_force, past_later}
 use Rattle.picture.specs.Words.{Accepted, AreBoundaries, AreUsedUp, IsBoundary, IsCurrent, IsGateEvent, IsSteady, kept}
 use Rattle.picture.proofs.DrawLaws.{gates_on}
 

@@ -1,10 +1,10 @@
 -- A command that a port accepts, and the gates of a picture.
 use Rattle.std.proofs.Common.{◌≡◌, ℕ, ◌+◌, List, Option, Some, None, Ok, Err, refl, sym, ap, ◌∙◌}
 use Rattle.picture.specs.Words.{lead_of, plan_fault, Accepted, with_command, accepted_at, deletion_at, AbstractPort, installs, plan_asked, Command, ClassLane, Drawing, history_with, with_plan}
-use Rattle.gate_list.specs.Gate.{Plan, ok_unless}
-use Rattle.gate_list.specs.declared.PlanFault.{PlanFault}
-use Rattle.list_config.specs.History.{announced}
-use Rattle.list_config.specs.Current.{with_command_by}
+use Rattle.gates.specs.Gate.{Plan, ok_unless}
+use Rattle.gates.specs.declared.gate_list.PlanFault.{PlanFault}
+use Rattle.gates.specs.History.{announced}
+use Rattle.gates.specs.Current.{with_command_by}
 use Rattle.abstract_port.specs.AbstractPort.{installs_by, refusal, own_refusal, map_refusal, limit_refusal, schedule_refusal, busy_refusal, busy_by, first_of, after_command}
 use Rattle.abstract_port.specs.declared.Command.TheVariants.{Replace, Delete}
 use Rattle.abstract_port.specs.declared.Change.{Change}

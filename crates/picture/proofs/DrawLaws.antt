@@ -2,7 +2,7 @@
 use Rattle.std.proofs.Common.{◌≡◌, ◌<◌, ◌≤◌, ℕ, ◌+◌, ◌-◌, List, Option, Some, None, MatchOption, unwrap_or, sym, ap, ◌∙◌, arith, le_refl}
 use Rattle.std.specs.Prelude.{IfSome}
 use Rattle.picture.specs.Words.{opens, Accepted, gates, kept, IsCurrent, IsSteady, ClassLane, Drawing, begun, with_bands, stepped, drawn, up_to, first_drawn, class_at}
-use Rattle.list_config.proofs.HistoryLaws.{kept_kept, kept_gates, past_later}
+use Rattle.gates.proofs.HistoryLaws.{kept_kept, kept_gates, past_later}
 use Rattle.picture.proofs.BandLaws.{drawn_on, bands_same}
 
 -- the moment up to which one mask shows: that of the next gate event, if there is one before

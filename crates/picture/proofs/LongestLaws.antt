@@ -2,8 +2,8 @@
 use Rattle.std.proofs.Common.{◌≡◌, ◌<◌, ◌≤◌, ℕ, zero, suc, ◌+◌, ◌-◌, Bool, true, false, ◌⊎◌, List, [], ◌∷◌, ◌++◌, Option, Some, None, inl, inr, refl, sym, ap, ◌∙◌, subst, arith, le_refl, le_trans}
 use Rattle.std.proofs.lemmas.Bool.{cases_lt, false≢true}
 use Rattle.picture.specs.Words.{opens, Span, Going, after, bands_from, AreBands}
-use Rattle.gate_list.specs.Open.{open_while}
-use Rattle.gate_list.proofs.OpenLaws.{open_at, open_from, same_while}
+use Rattle.gates.specs.Open.{open_while}
+use Rattle.gates.proofs.OpenLaws.{open_at, open_from, same_while}
 use Rattle.picture.specs.Laws.{MayBegin, IsOpenSince, IsLongest, AreLongest, AreInOrder, LiesIn, RunsSo}
 
 longest_push : (masks : ℕ → ℕ) (class start m : ℕ) (bs : List Span) (b : Span) → AreLongest masks class start m bs → IsLongest masks class start m b → AreLongest masks class start m (bs ++ b ∷ [])

@@ -2,7 +2,7 @@
 use Rattle.std.proofs.Common.{◌≡◌, ◌<◌, ◌≤◌, ◌⊎◌, ℕ, zero, suc, ◌+◌, ◌-◌, ◌*◌, List, Option, Some, None, is_some, unwrap_or, false, if◌then◌else◌, refl, ap, ◌∙◌, subst, sym, inl, inr, arith, le_refl}
 use Rattle.std.proofs.Math.Nat.{mul-add, mul-le-mul, mul-le-mul_left, mul-suc, mul-zero}
 use Rattle.std.proofs.lemmas.Bool.{cases_lt}
-use Rattle.list_config.proofs.LongestLaws.{longest-kept}
+use Rattle.gates.proofs.LongestLaws.{longest-kept}
 use Rattle.picture.specs.Words.{Accepted, kept, longest, most_mixed}
 
 -- no list of what is kept is longer

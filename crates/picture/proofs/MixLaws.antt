@@ -4,9 +4,9 @@ use Rattle.std.specs.Prelude.{slice_index_or, slice_set}
 use Rattle.std.proofs.lemmas.Bool.{cases_lt}
 use Rattle.std.proofs.lemmas.List.{get_or-set_same, get_or-set_other}
 use Rattle.std.proofs.Math.Bool.{or-true}
-use Rattle.list_config.specs.Choice.{first_choice, may_go, may_start}
-use Rattle.list_config.proofs.ChoiceLaws.{greatest_below-passes, greatest_below-some}
-use Rattle.gate_list.proofs.OpenLaws.{same_while}
+use Rattle.gates.specs.Choice.{first_choice, may_go, may_start}
+use Rattle.gates.proofs.ChoiceLaws.{greatest_below-passes, greatest_below-some}
+use Rattle.gates.proofs.OpenLaws.{same_while}
 use Rattle.picture.specs.Words.{opens, Accepted, gates, ClassLane, stepped, drawn_mixed, drawn_whole, is_mixed, no_needs, open_while, opens_within}
 
 -- ---- a moment at which a class is open

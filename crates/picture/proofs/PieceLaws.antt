@@ -4,7 +4,7 @@ use Rattle.std.proofs.Math.Bool.{and-false}
 use Rattle.std.proofs.Math.Nat.{div-add-mod, mod-lt, mul-le-mul, mul-le-mul_left, mul-suc, mul-zero}
 use Rattle.std.proofs.lemmas.Bool.{cases_lt}
 use Rattle.wire_time.specs.declared.TheConstants.{CLASSES}
-use Rattle.gate_list.proofs.OpenLaws.{open_from}
+use Rattle.gates.proofs.OpenLaws.{open_from}
 use Rattle.picture.specs.Words.{Accepted, ArePieces, ClassLane, IsCurrent, IsDrawnInPieces, IsPiece, class_at, drawn_mixed, drawn_whole, gates, is_mixed, kept, mixed_pieces, open_while, opens, opens_within, piece_of, pixel_of, stepped, up_to, whole_pieces}
 use Rattle.picture.specs.Pane.{Pane, IsPane}
 use Rattle.picture.specs.declared.TheConstants.{MAX_WIDTH}

@@ -1,6 +1,6 @@
 -- The times for which a class is open, picosecond by picosecond.
 use Rattle.std.specs.Prelude.{ℕ, zero, suc, ◌+◌, Bool, if◌then◌else◌, List, [], ◌∷◌, ◌++◌, Option, Some, None, unwrap_or}
-use Rattle.gate_list.specs.Gate.{opens}
+use Rattle.gates.specs.Gate.{opens}
 use Rattle.picture.specs.declared.span.Span.{Span}
 
 -- since when a class has been open, if it is, and the bands that are complete: for each from when on it was open, and when it closed

@@ -1,17 +1,17 @@
 -- The bands of eight classes, in lanes.
 use Rattle.std.specs.Prelude.{ℕ, ◌≡◌, ◌<◌, ◌≤◌, zero, suc, ◌+◌, ◌-◌, ◌*◌, ◌/◌, ◌%◌, ◌⊎◌, min, max, Bool, false, ◌&&◌, ◌||◌, not, List, [], ◌∷◌, length, Option, Some, None, unwrap_or, slice_index_or}
 use Rattle.wire_time.specs.declared.TheConstants.{CLASSES}
-use Rattle.per_class.specs.Eight.{eight}
-use Rattle.gate_list.specs.Gate.{opens, plan_fault}
-use Rattle.gate_list.specs.Open.{open_while}
+use Rattle.abstract_port.specs.Eight.{eight}
+use Rattle.gates.specs.Gate.{opens, plan_fault}
+use Rattle.gates.specs.Open.{open_while}
 use Rattle.picture.specs.declared.TheConstants.{MAX_WIDTH, MOST_BOUNDARIES}
-use Rattle.list_config.specs.History.{Accepted, gates}
-use Rattle.list_config.specs.Current.{IsSteady, accepted_at, deletion_at, longest, with_command}
-use Rattle.list_config.specs.Event.{IsGateEvent}
+use Rattle.gates.specs.History.{Accepted, gates}
+use Rattle.gates.specs.Current.{IsSteady, accepted_at, deletion_at, longest, with_command}
+use Rattle.gates.specs.Event.{IsGateEvent}
 use Rattle.abstract_port.specs.AbstractPort.{plan_asked}
 use Rattle.abstract_port.specs.declared.Command.{Command}
 use Rattle.abstract_port.specs.declared.Command.TheVariants.{Replace, Delete}
-use Rattle.gate_list.specs.declared.PlanFault.{PlanFault}
+use Rattle.gates.specs.declared.gate_list.PlanFault.{PlanFault}
 use Rattle.picture.specs.declared.span.Span.{Span}
 use Rattle.picture.specs.Lanes.{Filled, band_pushed, no_shapes}
 use Rattle.picture.specs.Bands.{Going, after, bands_from}

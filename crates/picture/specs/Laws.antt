@@ -1,7 +1,7 @@
 -- The laws of bands and of lanes, each the promise of a function of its name.
 use Rattle.std.specs.Prelude.{◌≡◌, ◌<◌, ◌≤◌, ℕ, ◌-◌, ◌*◌, ◌⊎◌, true, false, List, [], ◌∷◌, Option, Some, None, unwrap_or, length}
-use Rattle.gate_list.specs.Gate.{opens}
-use Rattle.gate_list.specs.Open.{open_while}
+use Rattle.gates.specs.Gate.{opens}
+use Rattle.gates.specs.Open.{open_while}
 use Rattle.picture.specs.declared.TheConstants.{MAX_WIDTH, MOST_SHAPES}
 use Rattle.picture.specs.declared.span.Span.{Span}
 use Rattle.picture.specs.declared.span.Shape.{Shape}

@@ -1,8 +1,8 @@
-pub mod Pane
-pub mod Viewports
-pub mod Ticks
-pub mod Lanes
 pub mod Bands
 pub mod Drawn
+pub mod Lanes
 pub mod Laws
+pub mod Pane
+pub mod Ticks
+pub mod Viewports
 pub mod Words

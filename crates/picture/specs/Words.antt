@@ -1,15 +1,15 @@
 -- The words of contracts and proofs, from one place.
 pub use Rattle.wire_time.specs.Moment.{greatest_lead, greatest_moment}
 pub use Rattle.wire_time.specs.Wire.{lead_of}
-pub use Rattle.gate_list.specs.Gate.{opens, plan_fault}
-pub use Rattle.list_config.specs.Current.{IsCurrent, IsSteady, accepted_at, deletion_at, longest, with_command}
-pub use Rattle.list_config.specs.Event.{IsGateEvent}
-pub use Rattle.list_config.specs.History.{Accepted, gates, kept}
+pub use Rattle.gates.specs.Gate.{opens, plan_fault}
+pub use Rattle.gates.specs.Current.{IsCurrent, IsSteady, accepted_at, deletion_at, longest, with_command}
+pub use Rattle.gates.specs.Event.{IsGateEvent}
+pub use Rattle.gates.specs.History.{Accepted, gates, kept}
 pub use Rattle.abstract_port.specs.AbstractPort.{AbstractPort, installs, plan_asked}
 pub use Rattle.abstract_port.specs.declared.Command.{Command}
 pub use Rattle.picture.specs.Bands.{Going, after}
 unfoldable pub use Rattle.picture.specs.Bands.{bands_from}
-unfoldable pub use Rattle.gate_list.specs.Open.{open_while}
+unfoldable pub use Rattle.gates.specs.Open.{open_while}
 unfoldable pub use Rattle.picture.specs.Drawn.{mixed_pieces, opens_within, whole_pieces}
 pub use Rattle.picture.specs.Drawn.{AreBoundaries, ArePieces, AreUsedUp, ClassLane, Drawing, IsBoundary, IsDrawnInPieces, IsGoneOn, IsPiece, begun, class_at, drawn, drawn_mixed, drawn_whole, first_drawn, history_with, is_mixed, most_asked, most_mixed, most_moved, new_drawing, no_bands, no_needs, no_classes, piece_of, stepped, up_to, with_bands, with_plan}
 pub use Rattle.picture.specs.Lanes.{AreEarly, Filled, are_joined, band_pushed, bunched, distance, is_near, is_short, join, join_all_by, join_from, joined, joined_at, no_shapes, pixel_to, pushed, roomy, wider}

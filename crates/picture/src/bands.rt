@@ -6,12 +6,12 @@ ghost use Rattle.picture.specs.Words.{greatest_lead, greatest_moment, lead_of, o
 use crate::class_bands::ClassBands;
 use crate::span::Shape;
 use crate::{MAX_WIDTH, MOST_BOUNDARIES, MOST_SHAPES};
+use abstract_port::per_class::classes_of;
 use abstract_port::{Change, Command};
-use gate_list::{Schedule, Visits, is_open};
+use gates::gate_list::{Schedule, Visits, is_open};
+use gates::list_config::Gates;
+use gates::queue_heads::Heads;
 use jumping::Jumping;
-use list_config::Gates;
-use per_class::classes_of;
-use queue_heads::Heads;
 use std::alloc::{AllocError, Allocator, Global};
 use std::marker::Model;
 use wire_time::{CLASSES, Rate};
@@ -272,7 +272,7 @@ pub struct Bands<A: Allocator = Global> {
 
 /// A contract sees the history of the gates and their moment, the two moments, and the classes.
 impl<A: Allocator> Model for Bands<A> {
-    ghost use Rattle.list_config.specs.Current.{IsCurrent};
+    ghost use Rattle.gates.specs.Current.{IsCurrent};
     ghost use Rattle.picture.specs.Drawn.{Drawing};
 
     ghost Value = { Drawing };

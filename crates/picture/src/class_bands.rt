@@ -5,8 +5,8 @@ ghost use Rattle.picture.specs.Words.{greatest_moment, MOST_SHAPES, no_bands};
 
 use crate::lane::Lane;
 use crate::span::{Shape, Span};
-use gate_list::is_open;
-use per_class::PerClass;
+use abstract_port::per_class::PerClass;
+use gates::gate_list::is_open;
 use std::alloc::{AllocError, Allocator, Global};
 use std::marker::Model;
 use wire_time::CLASSES;

@@ -1,11 +1,11 @@
 //! The cycle of a schedule that is given.
 
 ghost use Rattle.std.specs.Prelude.{◌≡◌, ◌≤◌, ◌*◌, length, sum_by};
-ghost use Rattle.gate_list.specs.declared.TheConstants.{MAX_ENTRIES};
+ghost use Rattle.gates.specs.declared.gate_list.TheConstants.{MAX_ENTRIES};
 ghost use Rattle.picture.specs.Words.{plan_asked};
 
 use abstract_port::Change;
-use gate_list::Entry;
+use gates::gate_list::Entry;
 
 /// The sum of the intervals, in nanoseconds.
 fn total_of(entries: &[Entry]) -> u64

@@ -2,8 +2,8 @@
 use Rattle.std.proofs.Common.{◌≡◌, ℕ, List, [], Option, Some, None, Result, Ok, Err, inl, inr, refl, sym, ◌∙◌, subst, append-nil}
 use Rattle.std.specs.Prelude.{IfSome}
 use Rattle.std.specs.Io.KnownBytes.{Appends, Keeps}
-use Rattle.octet_writer.specs.Writes.{AppendsFront, Sent, Writes}
-use Rattle.octet_writer.proofs.Fronts.{front_of_short}
+use Rattle.text.specs.Writes.{AppendsFront, Sent, Writes}
+use Rattle.text.proofs.Fronts.{front_of_short}
 use Rattle.job.specs.RunEnd.{IsOrFails}
 use Rattle.job.proofs.RunEndLaws.{appends_kept, sent_kept, sent_whole}
 use Rattle.job.specs.declared.fault.Fault.{Fault}

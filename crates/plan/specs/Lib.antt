@@ -1,6 +1,6 @@
-pub mod Met
 pub mod Faults
 pub mod Given
+pub mod Met
+pub mod PlanEnd
 pub mod Reads
 pub mod Search
-pub mod PlanEnd

@@ -5,8 +5,8 @@ use Rattle.script.specs.Setup.{Setup}
 use Rattle.stream_bounds.specs.BoundsEnd.{no_classes}
 use Rattle.stream_bounds.specs.Outcome.{IsOutcome}
 use Rattle.stream_bounds.specs.declared.settings.BoundsSettings.{BoundsSettings}
-use Rattle.tc_reader.specs.Reader.{IsReader}
-use Rattle.tc_reader.specs.declared.fault.TcFault.{TcFault}
+use Rattle.port_text.specs.Reader.{IsReader}
+use Rattle.port_text.specs.declared.tc_reader.fault.TcFault.{TcFault}
 
 -- a strict run of `bounds` on a new port, where nothing else is asked for
 abbrev pub strict_settings : Setup → BoundsSettings

@@ -1,8 +1,8 @@
 -- What planning for a table leaves: its exit status, what the writer got, and the text of a fault.
 use Rattle.std.specs.Prelude.{◌≡◌, ◌⊎◌, ℕ, List, Bool, true, false, Option, Some, None, Result, Ok, Err, IfSome, codes}
 use Rattle.std.specs.Io.KnownBytes.{Appends, Keeps}
-use Rattle.line_reader.specs.Script.{script_of}
-use Rattle.octet_writer.specs.Writes.{AppendsFront}
+use Rattle.text.specs.Script.{script_of}
+use Rattle.text.specs.Writes.{AppendsFront}
 use Rattle.job.specs.RunEnd.{IsLetOut, IsRunEnding, IsUnanswered}
 use Rattle.job.specs.declared.fault.Fault.{Fault}
 use Rattle.job.specs.declared.fault.Fault.TheVariants as Faults

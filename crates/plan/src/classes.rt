@@ -1,7 +1,7 @@
 //! Which class each priority has: those with streams have classes of their own, in their order, and all others class 0.
 
 use crate::reasons::Reason;
-use schedule_search::Flow;
+use crate::schedule_search::Flow;
 use std::alloc::{AllocError, Allocator};
 use traffic::Stream;
 use wire_time::{CLASSES, PRIORITIES, Rate, occupancy};

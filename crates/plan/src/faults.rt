@@ -4,8 +4,8 @@ ghost use Rattle.std.specs.Prelude.{◌≡◌};
 ghost use Rattle.plan.specs.Faults.{plan_kind, plan_telling, table_fault};
 
 use crate::reasons::Reason;
-use answer_text::{WriteFault, put};
 use job::{Fault, FaultKind, InputFault};
+use port_text::answer_text::{WriteFault, put};
 use script::{RunFault, ScriptFault, put_line_fault};
 use std::io::Write;
 use thiserror::Error;

@@ -9,12 +9,13 @@ mod classes;
 mod faults;
 mod judge;
 mod kept;
+mod line;
 mod octets;
 mod plan_job;
 mod plans;
 mod reasons;
+pub mod schedule_search;
 mod settings;
-mod text;
 
 pub use faults::{PlanFault, PlanInput};
 pub use octets::MAX_OCTETS;

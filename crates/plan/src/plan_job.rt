@@ -1,7 +1,7 @@
 //! The program's job: a plan for a table of streams.
 
 ghost use Rattle.std.specs.Prelude.{◌≡◌, List, ℕ, IfErr, IfOk, true};
-ghost use Rattle.octet_writer.specs.Buffered.{writer_contents};
+ghost use Rattle.text.specs.Buffered.{writer_contents};
 ghost use Rattle.plan.specs.PlanEnd.{IsNoted, IsPlanEnding, IsPlanRefusal, IsPlanned};
 ghost use Rattle.plan.specs.Given.{IsGiven};
 ghost use Rattle.plan.specs.Search.{IsGoodOr};
@@ -9,21 +9,21 @@ ghost use Rattle.script.specs.Given.{words_of_values};
 ghost use Rattle.script.specs.ScriptEnd.{settings_given};
 ghost use Rattle.script.specs.Setup.{Setup};
 ghost use Rattle.wire_time.specs.Moment.{greatest_moment};
-ghost use Rattle.octet_writer.specs.Writes.{Writes};
+ghost use Rattle.text.specs.Writes.{Writes};
 
 use crate::faults::PlanFault;
 use crate::plans::{Found, Planned, plan_for, put_planned};
 use crate::settings::{PlanSettings, PlanValue, PlanWords, say_plan_value};
-use answer_text::{Part, WriteFault, put_parts};
-use gate_list::{MAX_BASE_NS, MAX_ENTRIES};
+use gates::gate_list::{MAX_BASE_NS, MAX_ENTRIES};
 use job::{Ended, Errors, FaultKind, end_run, end_told};
-use octet_writer::BufWriter;
+use port_text::answer_text::{Part, WriteFault, put_parts};
 use script::{Watch, settings_given};
 use std::alloc::{Allocator, Global};
 use std::io::{Read, Write};
-use times::time;
+use text::octet_writer::BufWriter;
+use text::times::time;
+use text::words::number;
 use wire_time::MAX_MOMENT;
-use words::number;
 
 /// The longest interval and cycle that a plan has, in nanoseconds.
 const LONGEST: u64 = 4_294_967_295;

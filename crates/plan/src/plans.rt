@@ -10,19 +10,19 @@ use crate::classes::{Classes, classes_of, flows_of};
 use crate::faults::{PlanFault, PlanInput, table_fault};
 use crate::judge::{Judged, verdict_of};
 use crate::kept::KeptStreams;
+use crate::line::put_schedule;
 use crate::octets::read_octets;
 use crate::reasons::{Reason, put_reason, reason_of};
-use crate::settings::PlanSettings;
-use crate::text::put_schedule;
-use line_reader::LineReader;
-use octet_writer::put;
-use schedule_search::{
+use crate::schedule_search::{
     Candidate, Flow, Limits, MAX_STRATEGIES, Why, find_schedule, is_needed, overloaded_class,
     strategy_of,
 };
+use crate::settings::PlanSettings;
 use script::Watch;
 use std::alloc::Global;
 use std::io::{Read, Write};
+use text::line_reader::LineReader;
+use text::octet_writer::put;
 use traffic::{Stream, read_table};
 use wire_time::{lead, occupancy};
 

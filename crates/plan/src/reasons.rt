@@ -1,10 +1,10 @@
 //! Why there is no plan.
 
 ghost use Rattle.std.specs.Prelude.{◌≡◌};
-ghost use Rattle.octet_writer.specs.Writes.{Writes};
+ghost use Rattle.text.specs.Writes.{Writes};
 ghost use Rattle.plan.specs.Faults.{numbered, reason_text};
 
-use answer_text::{Part, WriteFault, put_parts};
+use port_text::answer_text::{Part, WriteFault, put_parts};
 use std::io::Write;
 use stream_bounds::Finding;
 

@@ -5,9 +5,9 @@ ghost use Rattle.job.specs.Texts.{IsTold};
 ghost use Rattle.plan.specs.PlanEnd.{plan_value_kind, plan_value_text};
 
 use job::{Ended, ValueKind};
-use octet_writer::put;
 use script::{BadValue, Settings, Values, put_value};
 use std::io::Write;
+use text::octet_writer::put;
 
 /// What a plan is made for.
 #[derive(Clone, Copy, Debug)]

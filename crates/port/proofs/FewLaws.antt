@@ -1,8 +1,8 @@
 -- What a port looks at in a step, by the longest list of its history, and how that grows.
 use Rattle.std.proofs.Common.{◌≡◌, ◌≤◌, ◌+◌, ◌*◌, ℕ, zero, suc, max, List, [], ◌∷◌, ◌++◌, take, ltb, ◌||◌, true, false, Option, Some, None, IfSome, is_some, refl, sym, ap, ◌∙◌, subst, arith, le_refl, le_trans}
 use Rattle.port.specs.Words.{greatest_moment, Answer, Refused, AbstractPort, installs_by, refusal, longest}
-use Rattle.list_config.specs.History.{Accepted}
-use Rattle.list_config.proofs.LongestLaws.{longest-kept}
+use Rattle.gates.specs.History.{Accepted}
+use Rattle.gates.proofs.LongestLaws.{longest-kept}
 use Rattle.abstract_port.specs.declared.Event.{Event}
 use Rattle.abstract_port.specs.declared.Event.TheVariants.{Arrive, Install, Clock, Query, Count}
 use Rattle.abstract_port.specs.AbstractPort.{PortState, settled, verdict, next_start, new_command}

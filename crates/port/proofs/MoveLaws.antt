@@ -2,7 +2,7 @@
 use Rattle.std.proofs.Common.{◌≡◌, ◌<◌, ◌≤◌, ℕ, inl, inr, List, Option, Some, None, sym, ap, ◌∙◌}
 use Rattle.std.specs.Prelude.{OnSome, IfSome}
 use Rattle.std.proofs.lemmas.Bool.{cases_lt}
-use Rattle.list_config.specs.Choice.{first_choice}
+use Rattle.gates.specs.Choice.{first_choice}
 use Rattle.port.specs.Words.{AbstractPort}
 use Rattle.abstract_port.specs.AbstractPort.{choice}
 use Rattle.abstract_port.proofs.ScanLaws.{needs_of, choice-free, choice-busy}

@@ -1,15 +1,15 @@
 -- The refusals of a change, in their order.
 use Rattle.std.proofs.Common.{◌≡◌, ℕ, ◌+◌, List, [], ◌∷◌, ◌++◌, Option, Some, None, Ok, Err, refl, sym, ap, ◌∙◌}
 use Rattle.std.specs.Prelude.{unwrap_or, IsSome}
-use Rattle.class_map.specs.declared.ClassMap.{ClassMap}
-use Rattle.class_map.specs.declared.Queues.{Queues}
-use Rattle.list_config.specs.History.{Accepted, announced}
-use Rattle.list_config.specs.Current.{accepted_at, deletion_at, answer_by, answer_to, with_command_by, with_command}
-use Rattle.list_config.specs.declared.NotNow.{NotNow}
-use Rattle.list_config.specs.declared.NotNow.TheVariants as waiting
+use Rattle.abstract_port.specs.declared.class_map.ClassMap.{ClassMap}
+use Rattle.abstract_port.specs.declared.class_map.Queues.{Queues}
+use Rattle.gates.specs.History.{Accepted, announced}
+use Rattle.gates.specs.Current.{accepted_at, deletion_at, answer_by, answer_to, with_command_by, with_command}
+use Rattle.gates.specs.declared.list_config.NotNow.{NotNow}
+use Rattle.gates.specs.declared.list_config.NotNow.TheVariants as waiting
 use Rattle.port.specs.Words.{lead_of, plan_fault, Refused, Schedule, busy_of, AbstractPort, plan_asked, refusal, installs_by}
-use Rattle.gate_list.specs.Gate.{Plan, ok_unless}
-use Rattle.gate_list.specs.declared.PlanFault.{PlanFault}
+use Rattle.gates.specs.Gate.{Plan, ok_unless}
+use Rattle.gates.specs.declared.gate_list.PlanFault.{PlanFault}
 use Rattle.abstract_port.specs.declared.Change.{Change}
 use Rattle.abstract_port.specs.declared.Command.{Command}
 use Rattle.abstract_port.specs.declared.Command.TheVariants.{Replace, Delete}

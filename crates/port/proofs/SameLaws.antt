@@ -3,7 +3,7 @@ use Rattle.std.proofs.Common.{◌≡◌, ℕ, ◌-◌, ◌==◌, ◌&&◌, Bool,
 use Rattle.std.specs.Prelude.{replicate}
 use Rattle.std.proofs.Math.Seq.{take-append_seam}
 use lib.Pointwise.{pointwise, pointwise_decides}
-use Rattle.class_map.specs.Ranges.{with_no_more, no_range}
+use Rattle.abstract_port.specs.Ranges.{with_no_more, no_range}
 use Rattle.abstract_port.specs.AbstractPort.{same_ranges}
 use Rattle.abstract_port.proofs.TurnLaws.{both}
 

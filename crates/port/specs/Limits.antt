@@ -1,7 +1,7 @@
 -- What a port may be made with, as tests.
 use Rattle.std.specs.Prelude.{ℕ, Bool, ◌&&◌, nat_le}
 use Rattle.wire_time.specs.declared.TheConstants.{MIN_MTU, MAX_MTU}
-use Rattle.class_queue.specs.declared.TheConstants.{MAX_ROOM}
+use Rattle.abstract_port.specs.declared.class_queue.TheConstants.{MAX_ROOM}
 
 -- an mtu, in octets
 abbrev pub is_mtu : ℕ → Bool

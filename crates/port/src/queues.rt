@@ -4,7 +4,7 @@ ghost use Rattle.std.specs.Prelude.{◌≡◌, ◌<◌, ◌∷◌, [], ◌++◌,
 ghost use Rattle.std.specs.Option.{ForSome};
 ghost use Rattle.port.specs.Words.{occupancy_of, head_need, queue_at, with_frames};
 
-use class_queue::ClassQueue;
+use abstract_port::class_queue::ClassQueue;
 use std::alloc::Allocator;
 use wire_time::{CLASSES, Frame, Rate, occupancy};
 

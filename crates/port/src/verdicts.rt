@@ -3,9 +3,9 @@
 ghost use Rattle.std.specs.Prelude.{◌≡◌, ◌<◌, IfSome, IfOk, OnOk};
 ghost use Rattle.port.specs.Words.{sdu_of, changes_map, changes_queues, default_class, first_over, judged, count_dropped, busy_of};
 
+use abstract_port::class_map::{ClassMap, Queues};
 use abstract_port::{Counts, Dropped, Refused};
-use class_map::{ClassMap, Queues};
-use list_config::NotNow;
+use gates::list_config::NotNow;
 use wire_time::{CLASSES, Frame, PRIORITIES, sdu};
 
 /// The counts with one more dropped frame.

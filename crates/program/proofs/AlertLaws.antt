@@ -20,8 +20,8 @@ use Rattle.job.specs.Texts.{run_status}
 use Rattle.job.specs.declared.fault.Fault.{Fault}
 use Rattle.job.specs.declared.fault.Fault.TheVariants as Faults
 use Rattle.job.specs.declared.report.Ended.{Ended}
-use Rattle.line_reader.specs.Script.{Script, Broken, Line, script_of}
-use Rattle.line_reader.specs.Script as Lines
+use Rattle.text.specs.Script.{Script, Broken, Line, script_of}
+use Rattle.text.specs.Script as Lines
 use Rattle.schedule_check.specs.Alerts.{alerts_in, line_wrong, with_alert}
 use Rattle.schedule_check.specs.Alerts as Checks
 use Rattle.schedule_check.specs.Checked.{is_command}
@@ -42,9 +42,9 @@ use Rattle.script.specs.declared.faults.BadLine.{BadLine}
 use Rattle.script.specs.declared.faults.ScriptFault.{ScriptFault}
 use Rattle.script.specs.declared.settings.BadValue.{BadValue}
 use Rattle.script.specs.declared.watch.Failure.{Failure}
-use Rattle.tc_reader.specs.declared.fault.TcFault.{TcFault}
+use Rattle.port_text.specs.declared.tc_reader.fault.TcFault.{TcFault}
 use Rattle.traffic.specs.Faults.{streams_telling}
-use Rattle.words.specs.Words.{words_of}
+use Rattle.text.specs.Words.{words_of}
 use Rattle.script.proofs.ReportLaws.{if_known}
 use Rattle.wire_time.specs.Moment.{greatest_moment}
 use Rattle.program.specs.Given.{checks_in, is_strict, looks_at_frames, settings_in}

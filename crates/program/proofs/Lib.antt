@@ -1,4 +1,4 @@
 mod AlertLaws
 mod NameLaws
-mod ToldLaws
 mod PlanLaws
+mod ToldLaws

@@ -2,7 +2,7 @@
 use Rattle.std.proofs.Common.{◌≡◌, Bool, true, false, ℕ, List, [], Option, Result, Ok, Err}
 use Rattle.std.specs.Prelude.{is_err}
 use Rattle.std.specs.Io.KnownBytes.{Keeps}
-use Rattle.octet_writer.specs.Writes.{Writes}
+use Rattle.text.specs.Writes.{Writes}
 use Rattle.job.proofs.RunEndLaws.{appends_kept, sent_whole}
 use Rattle.program.specs.Jobs.{Tells}
 

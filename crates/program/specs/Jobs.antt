@@ -1,7 +1,7 @@
 -- What the program answers to its words: a job, help, or why they are refused.
 use Rattle.std.specs.Prelude.{◌≡◌, ◌⊎◌, List, ℕ, [], Bool, true, false, Option, Some, None, Result, Ok, Err, codes, unwrap_or}
 use Rattle.std.specs.Io.KnownBytes.{Appends, append_known}
-use Rattle.octet_writer.specs.Writes.{AppendsFront}
+use Rattle.text.specs.Writes.{AppendsFront}
 use Rattle.clap.specs.Matches.{first_value, found_of}
 use Rattle.clap.specs.Simple.{subcommand_of, subcommand_rows_of}
 use Rattle.clap.specs.Takes.{takes}

@@ -11,7 +11,7 @@ use Rattle.clap.specs.declared.parser.matches.Found.{Found}
 use Rattle.frame_table.specs.Alerts as Frames
 use Rattle.frame_table.specs.Alerts.{by_stream_alerts, capture_alerts, frames_alerts}
 use Rattle.job.specs.declared.report.Ended.{Ended}
-use Rattle.line_reader.specs.Script.{script_of}
+use Rattle.text.specs.Script.{script_of}
 use Rattle.replay.specs.Outcome.{ReadsAs}
 use Rattle.schedule_check.specs.Alerts as Checks
 use Rattle.schedule_check.specs.Alerts.{alerts_in}
@@ -21,8 +21,8 @@ use Rattle.script.specs.Alerts.{Alert, Failed, Judged, Left, Lost, Passed, Strea
 use Rattle.script.specs.Outcome.{reading_of}
 use Rattle.script.specs.Setup.{Setup}
 use Rattle.script.specs.declared.settings.BadValue.{BadValue}
-use Rattle.tc_reader.specs.Reader.{IsReader}
-use Rattle.tc_reader.specs.declared.fault.TcFault.{TcFault}
+use Rattle.port_text.specs.Reader.{IsReader}
+use Rattle.port_text.specs.declared.tc_reader.fault.TcFault.{TcFault}
 use Rattle.wire_time.specs.Moment.{greatest_moment}
 use Rattle.program.specs.Given.{checks_in, looks_at_frames, is_strict, settings_in}
 use Rattle.program.specs.declared.job_name.JobName.{JobName}

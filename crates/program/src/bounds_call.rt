@@ -1,7 +1,7 @@
 //! The delays of the streams of a table from a file.
 
 ghost use Rattle.std.specs.Prelude.{◌≡◌, IfErr, Some, codes};
-ghost use Rattle.octet_writer.specs.Buffered.{writer_contents};
+ghost use Rattle.text.specs.Buffered.{writer_contents};
 ghost use Rattle.clap.specs.Matches.{first_value, found_of};
 ghost use Rattle.program.specs.Given.{IsGivenBounds, bounds_in};
 
@@ -9,7 +9,6 @@ use crate::options::bounds_of;
 use crate::replay_call::{end_unopened, open};
 use clap::ArgMatches;
 use job::{Ended, Errors, end_told};
-use octet_writer::BufWriter;
 use script::Watch;
 use std::alloc::{Allocator, Global};
 use std::io::{Read, Write};
@@ -18,6 +17,7 @@ use stream_bounds::{
     BoundsSettings, BoundsValue, answer_bounds, bounds_given as settings_given,
     end_with_bounds_value,
 };
+use text::octet_writer::BufWriter;
 
 /// The settings of the values that bounds are given, or the first value that is bad.
 pub(crate) fn bounds_settings(matches: &ArgMatches<'_>) -> Result<BoundsSettings, BoundsValue>

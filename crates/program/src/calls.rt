@@ -1,7 +1,7 @@
 //! What is answered to the words of the program.
 
 ghost use Rattle.std.specs.Prelude.{◌≡◌, [], IfErr, IfSome, map, string_bytes, true};
-ghost use Rattle.octet_writer.specs.Buffered.{writer_buffer, writer_contents};
+ghost use Rattle.text.specs.Buffered.{writer_buffer, writer_contents};
 ghost use Rattle.clap.specs.Values.{kind_of};
 ghost use Rattle.clap.specs.Matches.{found_of, subcommand_name_of};
 ghost use Rattle.program.specs.Jobs.{IsFound, IsJobEnding, IsProgramEnding, IsHelp, IsRefusedBy, IsUsage, IsWatchedEnding, Tells};
@@ -32,13 +32,13 @@ use clap::error::ErrorKind;
 use clap::{ArgMatches, Error};
 use drawing::answer_draw;
 use job::{Ended, Errors, end_told};
-use octet_writer::{BufWriter, put};
 use schedule_check::answer_check;
 use script::{Watch, answer_script};
 use std::alloc::{Allocator, Global};
 use std::io::{Read, Write};
 use std::rt::Files;
 use std::time::Clock;
+use text::octet_writer::{BufWriter, put};
 
 /// Answers the script that `reader` gives, by the values that the words give to the options, through `answers`, with
 /// the text of a fault on `errors`; and gives the writer of the answers back.

@@ -2,7 +2,7 @@
 //! one.
 
 ghost use Rattle.std.specs.Prelude.{◌≡◌, IfErr, Some, codes};
-ghost use Rattle.octet_writer.specs.Buffered.{writer_contents};
+ghost use Rattle.text.specs.Buffered.{writer_contents};
 ghost use Rattle.clap.specs.Matches.{first_value, found_of};
 ghost use Rattle.capture.specs.declared.writer.TheConstants.{CAPTURE_END};
 ghost use Rattle.program.specs.Given.{IsGivenCapture, IsGivenFrames, IsGivenTable, frames_settings, settings_in};
@@ -15,11 +15,11 @@ use capture::CAPTURE_END;
 use clap::ArgMatches;
 use frame_table::{answer_frames, answer_frames_by_stream, answer_frames_of_capture};
 use job::{Ended, Errors};
-use octet_writer::BufWriter;
 use script::{Watch, end_with_value, settings_given};
 use std::alloc::{Allocator, Global};
 use std::io::{Read, Write};
 use std::rt::Files;
+use text::octet_writer::BufWriter;
 use wire_time::MAX_MOMENT;
 
 /// Writes the table of the frames of a replay of the script that `reader` gives and of the capture in the file of this

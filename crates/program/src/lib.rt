@@ -9,7 +9,7 @@
 #![tactic(auto)]
 
 ghost use Rattle.std.specs.Prelude.{◌≡◌};
-ghost use Rattle.octet_writer.specs.Buffered.{writer_contents};
+ghost use Rattle.text.specs.Buffered.{writer_contents};
 ghost use Rattle.job.specs.RunEnd.{IsUnanswered};
 ghost use Rattle.job.specs.Texts.{IsTold};
 ghost use Rattle.program.specs.Jobs.{memory_text};
@@ -36,7 +36,6 @@ pub use calls::{answer_given, check_given, draw_given};
 pub use frames_call::frames_given;
 use job::{Ended, end_told, say_fault};
 pub use laws::replay_words;
-use octet_writer::BufWriter;
 use options::reads_input;
 pub use options::values_of;
 pub use paths_call::paths_given;
@@ -49,6 +48,7 @@ use std::alloc::Allocator;
 use std::io::{IsTerminal, Write};
 use std::process::ExitCode;
 pub use streams_call::streams_given;
+use text::octet_writer::BufWriter;
 
 /// How many octets of each output are kept until they are let out.
 const BUFFER: usize = 131_072;

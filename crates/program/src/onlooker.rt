@@ -12,13 +12,13 @@ use hints::{
     put_none_judged, put_shared_ids,
 };
 use job::{CaptureKind, Ended, Errors, FaultKind};
-use octet_writer::put;
 use script::{Basis, Failure, Missed, Watch, read_tc};
 use std::alloc::Global;
 use std::io::{self, Write};
 use std::time::Clock;
+use text::octet_writer::put;
+use text::words::Words;
 use wire_time::Frame;
-use words::Words;
 
 /// How many octets of a line are kept, to be shown.
 const LINE: usize = 4096;

@@ -1,7 +1,7 @@
 //! The delays of the streams of a network from a file.
 
 ghost use Rattle.std.specs.Prelude.{◌≡◌, IfErr, Some, codes};
-ghost use Rattle.octet_writer.specs.Buffered.{writer_contents};
+ghost use Rattle.text.specs.Buffered.{writer_contents};
 ghost use Rattle.clap.specs.Matches.{first_value, found_of};
 ghost use Rattle.program.specs.Given.{IsGivenPaths, bounds_in};
 
@@ -10,13 +10,13 @@ use crate::options::value_of;
 use crate::replay_call::{end_unopened, open};
 use clap::ArgMatches;
 use job::{Ended, Errors, end_told};
-use octet_writer::BufWriter;
 use paths::answer_paths;
 use script::Watch;
 use std::alloc::{Allocator, Global};
 use std::io::{Read, Write};
 use std::rt::Files;
 use stream_bounds::end_with_bounds_value;
+use text::octet_writer::BufWriter;
 
 /// Answers about the schedules that `reader` gives and the network whose file the words name, through `answers`, with
 /// the text of a fault on `errors`; and gives the writer of the answers back. The values are judged first; then the file

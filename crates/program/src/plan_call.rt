@@ -1,7 +1,7 @@
 //! A schedule for the streams of a table from a file.
 
 ghost use Rattle.std.specs.Prelude.{codes};
-ghost use Rattle.octet_writer.specs.Buffered.{writer_contents};
+ghost use Rattle.text.specs.Buffered.{writer_contents};
 ghost use Rattle.clap.specs.Matches.{first_value, found_of};
 ghost use Rattle.program.specs.Given.{IsGivenPlan, flag_in, settings_in};
 ghost use Rattle.wire_time.specs.Moment.{greatest_moment};
@@ -10,12 +10,12 @@ use crate::options::plan_of;
 use crate::replay_call::{end_unopened, open};
 use clap::ArgMatches;
 use job::{Ended, Errors, end_told};
-use octet_writer::BufWriter;
 use plan::{answer_plan, end_with_plan_value, plan_given};
 use script::Watch;
 use std::alloc::{Allocator, Global};
 use std::io::Write;
 use std::rt::Files;
+use text::octet_writer::BufWriter;
 
 /// Plans for the streams of the table whose file the words name, through `answers`, with the text of a fault on
 /// `errors`; and gives the writer of the answers back. The values are judged first; then the file is opened. Where it

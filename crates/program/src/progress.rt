@@ -2,12 +2,12 @@
 
 ghost use Rattle.std.specs.Prelude.{◌≡◌, ◌*◌, ◌/◌, None, max};
 ghost use Rattle.std.specs.List.{flat_map};
-ghost use Rattle.answer_text.specs.Part.{text_of};
+ghost use Rattle.port_text.specs.Part.{text_of};
 ghost use Rattle.std.specs.Duration.{as_nanos};
 ghost use Rattle.program.specs.Jobs.{Tells};
 ghost use Rattle.program.specs.Progress.{IsNoted, progress_line};
 
-use answer_text::{Part, put_parts};
+use port_text::answer_text::{Part, put_parts};
 use std::io::Write;
 use std::time::{Clock, Duration, Instant};
 

@@ -1,7 +1,7 @@
 //! A script and a capture from files through the port.
 
 ghost use Rattle.std.specs.Prelude.{◌≡◌, IfErr, IfOk, None, OnOk, Some, [], codes, option_map, unwrap_or};
-ghost use Rattle.octet_writer.specs.Buffered.{writer_contents};
+ghost use Rattle.text.specs.Buffered.{writer_contents};
 ghost use Rattle.clap.specs.Matches.{first_value, found_of};
 ghost use Rattle.program.specs.Given.{over_input_text, settings_in, timing_in};
 ghost use Rattle.program.specs.Jobs.{IsGivenReplay, IsReplayed, IsReplayedOrForgotten, memory_text};
@@ -16,12 +16,11 @@ use crate::onlooker::FaultText;
 use crate::options::values_of;
 use crate::same_file::{is_regular, is_same_file};
 use crate::{BUFFER, end_without_memory};
-use answer_text::{Part, put_parts};
 use arrayvec::ArrayVec;
 use capture::CAPTURE_END;
 use clap::ArgMatches;
 use job::{Ended, Errors, FaultKind, ValueKind, end_told};
-use octet_writer::BufWriter;
+use port_text::answer_text::{Part, put_parts};
 use replay::{
     BadTiming, Inputs, Outputs, Timing, answer_replay, say_timing, say_unopened, timing_given,
 };
@@ -30,6 +29,7 @@ use std::alloc::{Allocator, Global};
 use std::fs;
 use std::io::{Read, Write};
 use std::rt::Files;
+use text::octet_writer::BufWriter;
 
 /// The path that is given for one of the files.
 fn path_of<'a>(matches: &ArgMatches<'a>, name: &str) -> &'a str

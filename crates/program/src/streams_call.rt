@@ -1,7 +1,7 @@
 //! A table of streams, and a script from a file, become a script.
 
 ghost use Rattle.std.specs.Prelude.{◌≡◌, IfErr, Some, codes};
-ghost use Rattle.octet_writer.specs.Buffered.{writer_contents};
+ghost use Rattle.text.specs.Buffered.{writer_contents};
 ghost use Rattle.clap.specs.Matches.{first_value, found_of};
 ghost use Rattle.program.specs.Given.{IsGivenStreams, plan_in};
 
@@ -9,11 +9,11 @@ use crate::options::streams_of;
 use crate::replay_call::{end_unopened, open};
 use clap::ArgMatches;
 use job::{Ended, Errors};
-use octet_writer::BufWriter;
 use script::{Watch, end_with_value};
 use std::alloc::{Allocator, Global};
 use std::io::{Read, Write};
 use std::rt::Files;
+use text::octet_writer::BufWriter;
 use traffic::{answer_streams, plan_given};
 
 /// Writes the script of the table of streams that `reader` gives through `answers`, with the lines of the script among

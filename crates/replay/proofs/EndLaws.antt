@@ -8,7 +8,7 @@ use Rattle.abstract_port.proofs.RunLaws.{IsTimely, timely-after, timely-settled,
 use Rattle.abstract_port.proofs.StartsLaws.{settled-starts}
 use Rattle.capture.specs.FileHeader.{IsHeaderFault}
 use Rattle.capture.specs.declared.fault.CapFault.TheVariants as CapFaults
-use Rattle.octet_writer.proofs.Fronts.{Appends-append, Appends-nil, sent_all}
+use Rattle.text.proofs.Fronts.{Appends-append, Appends-nil, sent_all}
 use Rattle.script.proofs.LeftLaws.{left-now, left-settled}
 use Rattle.script.specs.Responses.{end_lines, left_lines}
 use Rattle.summary.specs.Lines.{class_text, classes_from, summary_lines, wire_text}

@@ -5,10 +5,10 @@ use Rattle.std.proofs.lemmas.List.{drop-append-le, length-append, length-drop, t
 use Rattle.std.proofs.lemmas.List.Elements.{All-head, All-tail}
 use Rattle.std.proofs.Math.Seq.{drop-append_seam}
 use Rattle.replay.specs.Words.{Command, script_of, TcFault, words_of, bad_line, Reading, Request, tc_request, script_limited, GivesScript, ReadsRest, IsScriptFault, AreKept, IsKept, kept_request, kept_requests, reading_of, request_in, Fault, ReplayInput, KeptLine, Tc}
-use Rattle.line_reader.specs.LineReader.{Advances}
-use Rattle.line_reader.specs.Script.{Script}
-use Rattle.line_reader.specs.declared.lines.LineFault.{LineFault}
-use Rattle.line_reader.specs.declared.lines.LineFault.TheVariants as LineFaults
+use Rattle.text.specs.LineReader.{Advances}
+use Rattle.text.specs.Script.{Script}
+use Rattle.text.specs.declared.line_reader.lines.LineFault.{LineFault}
+use Rattle.text.specs.declared.line_reader.lines.LineFault.TheVariants as LineFaults
 use Rattle.script.specs.Outcome.{with_line}
 use Rattle.script.specs.declared.faults.ScriptFault.{ScriptFault}
 use Rattle.script.proofs.ReaderLaws.{of_input}

@@ -1,15 +1,15 @@
-pub mod Sends
-pub mod StartLaws
 pub mod ArrivalLaws
-pub mod SeenLaws
-pub mod RunLaws
-pub mod LineLaws
-pub mod RecordLaws
-pub mod KeepLaws
-pub mod MergeLaws
 pub mod EndLaws
-pub mod TellLaws
+pub mod KeepLaws
+pub mod LineLaws
+pub mod MergeLaws
 mod QueuedLaws
-pub mod ReplayLaws
+pub mod RecordLaws
 mod ReplayEndLaws
+pub mod ReplayLaws
+pub mod RunLaws
+pub mod SeenLaws
+pub mod Sends
 pub mod SeparatedLaws
+pub mod StartLaws
+pub mod TellLaws

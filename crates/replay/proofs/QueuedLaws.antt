@@ -2,7 +2,7 @@
 use Rattle.std.proofs.Common.{◌≡◌, ℕ, zero, suc, [], ◌∷◌, ◌++◌, ◌+◌, ◌*◌, ◌/◌, ◌%◌, ◌^◌, ◌<◌, sym, ap, ◌∙◌, arith, append_assoc}
 use Rattle.std.specs.Prelude.{codes, decimal}
 use Rattle.std.proofs.lemmas.Fmt.{decimal_digit, decimal_step}
-use Rattle.answer_text.specs.Lines.{queued_line}
+use Rattle.port_text.specs.AnswerLines.{queued_line}
 use Rattle.replay.specs.Queued.{queued_front}
 
 front_digit : (tens digit : ℕ) → digit < 10 → 10 * tens + digit < 2 ^ 64 → queued_front tens ++ decimal digit ≡ codes "queued " ++ decimal (10 * tens + digit)

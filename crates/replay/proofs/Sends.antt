@@ -4,8 +4,8 @@ use Rattle.std.proofs.Common.{◌≡◌, ℕ, List, [], ◌++◌, Option, Result
 use Rattle.std.specs.Io.KnownBytes.{Appends, Keeps}
 use Rattle.job.proofs.RunEndLaws.{sent_kept}
 use Rattle.replay.specs.Words.{FallsShort, Writes, Got, Output, PutsBoth, SentBoth, joined, nothing, Stop}
-use Rattle.octet_writer.specs.Writes.{Sent}
-use Rattle.octet_writer.proofs.Fronts.{Appends-append, sent_none}
+use Rattle.text.specs.Writes.{Sent}
+use Rattle.text.proofs.Fronts.{Appends-append, sent_none}
 
 pub always : {T P : Type 0} (r : Result T Stop) → P → OnOk r P
 always (Ok x) p = p

@@ -1,7 +1,7 @@
 -- What concerns a class that is kept apart, in both outputs.
 use Rattle.std.proofs.Common.{◌≤◌, ℕ, List, sym, ap, ◌∙◌}
 use Rattle.replay.specs.Words.{new_port, Origin, Request, events_of, IsSeparatedBy}
-use Rattle.separation.specs.Separation.{IsSeparation}
+use Rattle.abstract_port.specs.Separation.{IsSeparation}
 use Rattle.script.proofs.SeparatedLaws.{only-events}
 use Rattle.replay.specs.Separated.{output_concerning, output_of}
 

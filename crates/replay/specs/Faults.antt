@@ -1,6 +1,6 @@
 -- Faults of a replay, from those of its parts.
 use Rattle.std.specs.Prelude.{ℕ}
-use Rattle.line_reader.specs.declared.lines.Limit.{Limit}
+use Rattle.text.specs.declared.line_reader.lines.Limit.{Limit}
 use Rattle.job.specs.declared.fault.Fault.{Fault}
 use Rattle.job.specs.declared.fault.Fault.TheVariants as Faults
 use Rattle.script.specs.Outcome.{long_line}

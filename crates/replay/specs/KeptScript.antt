@@ -4,8 +4,8 @@ use Rattle.std.specs.Coded.{×_prop, Unit-prop, le_prop}
 use Rattle.capture.specs.declared.writer.TheConstants.{CAPTURE_END}
 use Rattle.abstract_port.specs.declared.Command.{Command}
 use Rattle.abstract_port.specs.declared.Event.TheVariants as Events
-use Rattle.tc_reader.specs.declared.fault.TcFault.{TcFault}
-use Rattle.words.specs.Words.{words_of}
+use Rattle.port_text.specs.declared.tc_reader.fault.TcFault.{TcFault}
+use Rattle.text.specs.Words.{words_of}
 use Rattle.script.specs.Requests.{Request, Asks, tc_request}
 use Rattle.replay.specs.declared.kept_script.KeptLine.{KeptLine}
 use Rattle.replay.specs.declared.kept_script.KeptLine.TheVariants.{Clock, Query, Count, Tc}

@@ -4,10 +4,10 @@ use Rattle.std.specs.Str.{bytes_eq}
 use Rattle.capture.specs.declared.writer.TheConstants.{CAPTURE_END}
 use Rattle.abstract_port.specs.declared.Command.{Command}
 use Rattle.abstract_port.specs.declared.Event.TheVariants as Events
-use Rattle.tc_reader.specs.declared.fault.TcFault.{TcFault}
-use Rattle.words.specs.Words.{words_of}
-use Rattle.line_reader.specs.Script.{Script, End, Broken}
-use Rattle.line_reader.specs.Script as Lines
+use Rattle.port_text.specs.declared.tc_reader.fault.TcFault.{TcFault}
+use Rattle.text.specs.Words.{words_of}
+use Rattle.text.specs.Script.{Script, End, Broken}
+use Rattle.text.specs.Script as Lines
 use Rattle.script.specs.Requests.{Request, Asks, said_in, tc_request}
 use Rattle.script.specs.Outcome.{Reading, long_line, with_line}
 use Rattle.script.specs.declared.script_line.Said.{Said}

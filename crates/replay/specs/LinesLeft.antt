@@ -1,7 +1,7 @@
 -- The lines of a kept script that are still to come.
 use Rattle.std.specs.Prelude.{◌≡◌, List, ℕ, [], ◌∷◌, Option, Some, None, Result, drop}
 use Rattle.abstract_port.specs.declared.Command.{Command}
-use Rattle.tc_reader.specs.declared.fault.TcFault.{TcFault}
+use Rattle.port_text.specs.declared.tc_reader.fault.TcFault.{TcFault}
 use Rattle.replay.specs.KeptScript.{kept_request, kept_requests}
 use Rattle.replay.specs.Merge.{Timed, lines_by, lines_past, requests_of, timed_from}
 use Rattle.replay.specs.declared.cursor.Cursor.{Cursor}

@@ -14,14 +14,14 @@ use Rattle.capture.specs.declared.format.Format.{Format}
 use Rattle.capture.specs.declared.reader.End.{End}
 use Rattle.capture.specs.declared.reader.End.TheVariants.{Whole, Broken}
 use Rattle.capture.specs.declared.writer.TheConstants.{CAPTURE_END}
-use Rattle.line_reader.specs.Script.{script_of}
+use Rattle.text.specs.Script.{script_of}
 use Rattle.script.specs.Requests.{Request}
 use Rattle.script.specs.Responses.{end_lines, events_of, responses_of}
 use Rattle.script.specs.Setup.{Setup}
 use Rattle.script.specs.declared.faults.BadLine.{BadLine}
 use Rattle.summary.specs.Observed.{Observed}
 use Rattle.summary.specs.Wanted.{noted_after, watched}
-use Rattle.tc_reader.specs.declared.fault.TcFault.{TcFault}
+use Rattle.port_text.specs.declared.tc_reader.fault.TcFault.{TcFault}
 use Rattle.replay.specs.Lines.{reading_of}
 use Rattle.replay.specs.Merge.{came_from, merged, timed_from, to_run_end}
 use Rattle.replay.specs.Outputs.{Got, Origin, Output, SentBoth, joined, nothing, output}

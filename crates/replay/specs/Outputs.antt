@@ -5,8 +5,8 @@ use Rattle.abstract_port.specs.declared.Answer.{Answer}
 use Rattle.abstract_port.specs.declared.Answer.TheVariants as Answered
 use Rattle.capture.specs.CaptureWriter.{written_record}
 use Rattle.capture.specs.Records.{Entry}
-use Rattle.octet_store.specs.Stored.{Kept, kept}
-use Rattle.octet_writer.specs.Writes.{Sent}
+use Rattle.capture.specs.Stored.{Kept, kept}
+use Rattle.text.specs.Writes.{Sent}
 use Rattle.script.specs.Responses.{Response, Gave, Faulted, lines_of}
 use Rattle.replay.specs.Stamps.{stamped}
 use Rattle.replay.specs.declared.faults.Stop.{Stop}

@@ -5,8 +5,8 @@ use Rattle.abstract_port.specs.declared.Command.{Command}
 use Rattle.capture.specs.Records.{Entry}
 use Rattle.capture.specs.declared.fault.CapFault.{CapFault}
 use Rattle.capture.specs.declared.reader.End.{End}
-use Rattle.tc_reader.specs.Reader.{IsReader}
-use Rattle.tc_reader.specs.declared.fault.TcFault.{TcFault}
+use Rattle.port_text.specs.Reader.{IsReader}
+use Rattle.port_text.specs.declared.tc_reader.fault.TcFault.{TcFault}
 use Rattle.job.specs.RunEnd.{IsRunEnding}
 use Rattle.script.specs.Setup.{Setup}
 use Rattle.job.specs.declared.report.Ended.{Ended}

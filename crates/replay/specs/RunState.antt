@@ -5,7 +5,7 @@ use Rattle.abstract_port.specs.AbstractPort.{AbstractPort, settled, starts_until
 use Rattle.abstract_port.specs.Answers.{port_after}
 use Rattle.abstract_port.specs.declared.Answer.TheVariants as Answered
 use Rattle.abstract_port.specs.Sound.{IsSoundPort}
-use Rattle.octet_store.specs.Stored.{Kept, Stored, kept, kept_at}
+use Rattle.capture.specs.Stored.{Kept, Stored, kept, kept_at}
 use Rattle.script.specs.Requests.{Request}
 use Rattle.script.specs.Responses.{Gave, events_of, responses_of}
 use Rattle.summary.specs.Observed.{Observed}

@@ -3,8 +3,8 @@ use Rattle.std.specs.Prelude.{◌≡◌, ◌<◌, List, ℕ}
 use Rattle.std.specs.List.{flat_map}
 use Rattle.abstract_port.specs.AbstractPort.{AbstractPort}
 use Rattle.abstract_port.specs.declared.Event.{Event}
-use Rattle.answer_text.specs.Lines.{answer_lines}
-use Rattle.separation.specs.Separation.{IsKeptApart, Noted, concerning, noted}
+use Rattle.port_text.specs.AnswerLines.{answer_lines}
+use Rattle.abstract_port.specs.Separation.{IsKeptApart, Noted, concerning, noted}
 use Rattle.script.specs.Requests.{Request}
 use Rattle.script.specs.Responses.{events_of}
 use Rattle.script.specs.Separated.{only_asked}

@@ -6,7 +6,7 @@ use Rattle.capture.specs.declared.fault.CapFault.TheVariants.{BadShift}
 use Rattle.capture.specs.declared.reader.End.{End}
 use Rattle.capture.specs.declared.reader.End.TheVariants.{Broken}
 use Rattle.capture.specs.declared.writer.TheConstants.{CAPTURE_END}
-use Rattle.times.specs.Times.{moment_in}
+use Rattle.text.specs.Times.{moment_in}
 use Rattle.replay.specs.declared.shifts.Shift.{Shift}
 
 -- 1. Moments

@@ -3,7 +3,7 @@ use Rattle.std.specs.Prelude.{◌≡◌, ℕ, List, ◌++◌, Some, None, Result
 use Rattle.abstract_port.specs.declared.Command.{Command}
 use Rattle.script.specs.Outcome.{Reading}
 use Rattle.script.specs.Requests.{Request}
-use Rattle.tc_reader.specs.declared.fault.TcFault.{TcFault}
+use Rattle.port_text.specs.declared.tc_reader.fault.TcFault.{TcFault}
 use Rattle.replay.specs.KeptScript.{kept_requests}
 use Rattle.job.specs.declared.fault.Fault.{Fault}
 use Rattle.job.specs.declared.fault.Fault.TheVariants as Faults

@@ -9,13 +9,13 @@ pub use Rattle.abstract_port.specs.declared.Command.{Command}
 pub use Rattle.abstract_port.specs.declared.Dropped.{Dropped}
 pub use Rattle.abstract_port.specs.declared.Event.{Event}
 pub use Rattle.abstract_port.specs.declared.Event.TheVariants.{Arrive}
-pub use Rattle.words.specs.Words.{words_of}
-pub use Rattle.octet_writer.specs.Writes.{FallsShort, Writes}
-pub use Rattle.line_reader.specs.LineReader.{script_left}
-pub use Rattle.line_reader.specs.Script.{script_of}
-pub use Rattle.tc_reader.specs.Reader.{IsReader}
-pub use Rattle.tc_reader.specs.declared.fault.TcFault.{TcFault}
-pub use Rattle.answer_text.specs.Lines.{answer_lines}
+pub use Rattle.text.specs.Words.{words_of}
+pub use Rattle.text.specs.Writes.{FallsShort, Writes}
+pub use Rattle.text.specs.LineReader.{script_left}
+pub use Rattle.text.specs.Script.{script_of}
+pub use Rattle.port_text.specs.Reader.{IsReader}
+pub use Rattle.port_text.specs.declared.tc_reader.fault.TcFault.{TcFault}
+pub use Rattle.port_text.specs.AnswerLines.{answer_lines}
 pub use Rattle.job.specs.Texts.{IsTold}
 pub use Rattle.job.specs.declared.fault.Fault.{Fault}
 pub use Rattle.capture.specs.CaptureReader.{IsNewReader, Left, Next, left}
@@ -28,7 +28,7 @@ pub use Rattle.capture.specs.declared.format.TheConstants.{MAX_RECORDS, MAX_RECO
 pub use Rattle.capture.specs.declared.reader.End.{End}
 pub use Rattle.capture.specs.declared.reader.End.TheVariants.{Broken, Whole}
 pub use Rattle.capture.specs.declared.writer.TheConstants.{CAPTURE_END}
-pub use Rattle.octet_store.specs.Stored.{Kept, Stored, kept, kept_at, new_store}
+pub use Rattle.capture.specs.Stored.{Kept, Stored, kept, kept_at, new_store}
 pub use Rattle.summary.specs.Observed.{Observed}
 pub use Rattle.summary.specs.Wanted.{noted, noted_all, watched}
 pub use Rattle.script.specs.Outcome.{IsFaithful, Reading, bad_line}

@@ -6,8 +6,8 @@ ghost use Rattle.wire_time.specs.Moment.{greatest_moment};
 ghost use Rattle.replay.specs.Words.{Writes, counted_to};
 
 use crate::sender::Sending;
-use answer_text::WriteFault;
 use capture::CAPTURE_END;
+use port_text::answer_text::WriteFault;
 use script::{Watch, put_end};
 use std::alloc::Allocator;
 use std::io::Write;

@@ -4,12 +4,12 @@ ghost use Rattle.std.specs.Prelude.{◌≡◌};
 ghost use Rattle.replay.specs.Words.{fault_of_stop, script_limited};
 ghost use Rattle.replay.specs.declared.faults.Stop.TheVariants as Stops;
 
-use answer_text::WriteFault;
 use capture::CapFault;
 use job::{Fault, LineInput};
-use line_reader::Limit;
+use port_text::answer_text::WriteFault;
 use script::BadLine;
 use std::alloc::AllocError;
+use text::line_reader::Limit;
 use thiserror::Error;
 
 /// What is wrong with the inputs of a replay.

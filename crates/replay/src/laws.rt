@@ -3,7 +3,7 @@
 ghost use Rattle.std.specs.Prelude.{◌≤◌, List};
 ghost use Rattle.replay.specs.Words.{new_port, Entry, IsFaithful, Origin, Request, Setup, MIN_MTU, MIN_PS_PER_OCTET, all_requests, IsSeparatedBy, MergeLaw};
 
-use separation::separation;
+use abstract_port::separation::separation;
 
 /// What is reported of a script and a capture is the abstract port's answers to the events of both. In each report
 /// every `start` line has its gate open from its start to its end, by the history of its time and by that at the end;

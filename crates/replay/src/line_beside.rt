@@ -6,7 +6,7 @@ ghost use Rattle.replay.specs.Words.{words_of, IsEarly, begins_with_frame, line_
 use abstract_port::Event;
 use capture::CAPTURE_END;
 use script::{Said, ScriptFault, read_line};
-use words::Words;
+use text::words::Words;
 
 /// What a line says.
 #[derive(Clone, Copy, Debug, PartialEq, Eq)]

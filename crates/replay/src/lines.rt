@@ -8,11 +8,11 @@ use crate::faults::Stop;
 use crate::kept_script::{KeptLine, KeptScript};
 use crate::sender::{Sending, put_clock};
 use abstract_port::Event;
-use octet_writer::PutLine;
+use port_text::tc_reader::CommandPlace;
+use port_text::tc_reader::laws::one_reader;
 use script::{Watch, put_answers, put_tc};
 use std::alloc::Allocator;
-use tc_reader::CommandPlace;
-use tc_reader::laws::one_reader;
+use text::octet_writer::PutLine;
 
 /// Answers a line of the script. Who watches is called where it begins with `tc` and changes nothing.
 #[inline(never)]

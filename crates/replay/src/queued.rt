@@ -2,16 +2,16 @@
 
 ghost use Rattle.std.specs.Prelude.{◌≡◌, ◌+◌, ◌*◌, ◌<◌, ◌≤◌, Ok, length, take};
 ghost use Rattle.abstract_port.specs.Answers.{arrival_answer};
-ghost use Rattle.answer_text.specs.Lines.{answer_lines, queued_line};
-ghost use Rattle.decimal_text.specs.Placed.{Placed};
-ghost use Rattle.decimal_text.specs.declared.digits.TheConstants.{EIGHT_DIGITS};
-ghost use Rattle.octet_writer.specs.Writes.{Writes};
+ghost use Rattle.port_text.specs.AnswerLines.{answer_lines, queued_line};
+ghost use Rattle.text.specs.Placed.{Placed};
+ghost use Rattle.text.specs.declared.decimal_text.digits.TheConstants.{EIGHT_DIGITS};
+ghost use Rattle.text.specs.Writes.{Writes};
 ghost use Rattle.replay.specs.Queued.{queued_front};
 ghost use Rattle.replay.specs.declared.queued.TheConstants.{FRONT};
 
-use answer_text::{WriteFault, put_arrival};
-use decimal_text::{EIGHT_DIGITS, put_digit, put_few, put_text};
-use octet_writer::{LINE_ROOM, Line, PutLine};
+use port_text::answer_text::{WriteFault, put_arrival};
+use text::decimal_text::{EIGHT_DIGITS, put_digit, put_few, put_text};
+use text::octet_writer::{LINE_ROOM, Line, PutLine};
 use wire_time::{CLASSES, Frame};
 
 /// The octets that the front of a line has room for.

@@ -15,10 +15,10 @@ use crate::lines::run_lines;
 use crate::sender::{Sending, put_arrival, put_clock};
 use crate::shifts::{Shift, moved_moment};
 use capture::{CapFault, CaptureReader, Record, RecordHeader, frame_of};
-use octet_writer::PutLine;
 use script::Watch;
 use std::alloc::Allocator;
 use std::io::{Read, Write};
+use text::octet_writer::PutLine;
 
 /// Takes a record: a clock event at this moment, and the arrival of its frame.
 #[inline(always)]

@@ -1,7 +1,7 @@
 //! The program's job with a capture: a script and a capture are run with settings, and the exit status is answered.
 
 ghost use Rattle.std.specs.Prelude.{◌≡◌, ◌⊎◌, [], Err};
-ghost use Rattle.octet_writer.specs.Buffered.{writer_buffer, writer_contents};
+ghost use Rattle.text.specs.Buffered.{writer_buffer, writer_contents};
 ghost use Rattle.std.specs.Io.KnownBytes.{Keeps};
 ghost use Rattle.job.specs.declared.fault.Fault.TheVariants as Faults;
 ghost use Rattle.replay.specs.Words.{IsReplayEnding, got};
@@ -10,10 +10,10 @@ use crate::faults::ReplayFault;
 use crate::replay_run::replay_timed;
 use crate::timing::Timing;
 use job::{Ended, Errors, say_run};
-use octet_writer::BufWriter;
 use script::{Settings, Watch};
 use std::alloc::Allocator;
 use std::io::{Read, Write};
+use text::octet_writer::BufWriter;
 
 /// Lets out what was written, the report first, also before a fault, unless a write failed already: no write is tried
 /// again.

@@ -17,14 +17,14 @@ use crate::sender::{Leaving, Sending, put_clock};
 use crate::shifts::Shift;
 use crate::stamps::{Stamp, stamping_at};
 use crate::timing::Timing;
-use answer_text::NearNumbers;
+use capture::octet_store::OctetStore;
 use capture::{CAPTURE_END, CapFault, CaptureReader, CaptureWriter};
-use octet_store::OctetStore;
-use octet_writer::PutLine;
+use port_text::answer_text::NearNumbers;
 use script::{RunningPort, Settings, Watch};
 use std::alloc::Allocator;
 use std::io::{Read, Write};
 use summary::{Summary, summary_wanted};
+use text::octet_writer::PutLine;
 
 /// Whether a moment is after the last that a capture can say.
 pub fn is_too_late(until: Option<u128>) -> bool

@@ -2,17 +2,17 @@
 
 ghost use Rattle.std.specs.Prelude.{◌≡◌, ◌<◌, ◌∷◌, ◌++◌, [], ℕ, List, Result, IfOk, IfSome, OnOk, Ok, Err, Some, length};
 ghost use Rattle.job.specs.declared.fault.Fault.TheVariants as Faults;
-ghost use Rattle.line_reader.specs.LineReader.{how_ended};
-ghost use Rattle.line_reader.specs.declared.lines.LineFault.TheVariants as LineFaults;
+ghost use Rattle.text.specs.LineReader.{how_ended};
+ghost use Rattle.text.specs.declared.line_reader.lines.LineFault.TheVariants as LineFaults;
 ghost use Rattle.replay.specs.Words.{Command, script_left, script_of, IsReader, TcFault, words_of, IsKept, kept_request, kept_requests, GivesScript, ReadsRest, IsEarly, line_request, reading_of};
 
 use crate::faults::{ReplayFault, ReplayInput};
 use crate::kept_script::{KeptLine, KeptScript};
 use crate::line_beside::{Line, read_line_beside};
-use line_reader::LineReader;
 use script::{BadLine, Watch};
 use std::alloc::{AllocError, Allocator};
 use std::io::Read;
+use text::line_reader::LineReader;
 
 /// Puts the octets of the line of a number after those that are kept, and says where they lie.
 fn keep_octets<A: Allocator>(

@@ -11,13 +11,13 @@ use crate::faults::Stop;
 use crate::queued::{QueuedLine, put_queued};
 use crate::stamps::{Stamping, stamped};
 use abstract_port::{Answer, Dropped, Start};
-use answer_text::{NearNumbers, WriteFault, put_answer};
 use capture::CaptureWriter;
-use octet_store::OctetStore;
-use octet_writer::PutLine;
+use capture::octet_store::OctetStore;
+use port_text::answer_text::{NearNumbers, WriteFault, put_answer};
 use script::{RunningPort, Watch};
 use std::alloc::{Allocator, Global};
 use summary::{Summary, note, note_start, note_verdict};
+use text::octet_writer::PutLine;
 use wire_time::{CLASSES, Frame};
 
 /// The capture that frames leave for.
@@ -77,7 +77,7 @@ fn put_noted_start<A: Allocator, V: PutLine>(
     ensures seen { summary.new ≡ noted now (Answered.Start start.now) summary.old }
 {
     note_start(summary, now, start);
-    answer_text::put_start(report, moments, start)
+    port_text::answer_text::put_start(report, moments, start)
 }
 
 /// Writes what becomes of a frame that arrives, noted where a summary is wanted. At a fault a prefix of it is written.
@@ -92,7 +92,7 @@ fn put_noted_arrival<A: Allocator, V: PutLine>(
     ensures seen { summary.new ≡ noted now (arrival_answer frame.now verdict) summary.old }
 {
     note_verdict(summary, now, frame, verdict);
-    answer_text::put_arrival(report, frame, verdict)
+    port_text::answer_text::put_arrival(report, frame, verdict)
 }
 
 /// Writes that a frame is queued, noted where a summary is wanted. At a fault a prefix of it is written.

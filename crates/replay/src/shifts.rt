@@ -5,7 +5,7 @@ ghost use Rattle.capture.specs.declared.writer.TheConstants.{CAPTURE_END};
 ghost use Rattle.replay.specs.Shifts.{moved_moment, shift_by, shift_in, shifted, within};
 
 use capture::CAPTURE_END;
-use times::moment;
+use text::times::moment;
 
 /// By how much the moments of a capture's records are moved, and which way.
 #[derive(Clone, Copy, Debug, PartialEq, Eq)]

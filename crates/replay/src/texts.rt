@@ -5,9 +5,9 @@ ghost use Rattle.replay.specs.Kinds.{capture_kind, replay_kind};
 ghost use Rattle.replay.specs.Words.{Writes, IsTold, capture_fault_name, capture_status, capture_text, header_text, record_text, open_text, replay_telling};
 
 use crate::faults::ReplayInput;
-use answer_text::{Part, WriteFault, put, put_parts};
 use capture::CapFault;
 use job::{CaptureKind, Ended, FaultKind, InputFault, ValueKind};
+use port_text::answer_text::{Part, WriteFault, put, put_parts};
 use script::{BadValue, put_value};
 use std::io::Write;
 

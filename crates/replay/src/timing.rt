@@ -7,8 +7,8 @@ ghost use Rattle.replay.specs.Words.{IsTold};
 
 use crate::shifts::{Shift, shift_in};
 use crate::stamps::{Stamp, stamp_given};
-use answer_text::put;
 use job::Ended;
+use port_text::answer_text::put;
 use std::io::Write;
 
 /// What the time stamps of both captures of a replay say.

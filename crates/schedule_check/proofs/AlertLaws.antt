@@ -5,8 +5,8 @@ use Rattle.abstract_port.specs.declared.Change.{Change}
 use Rattle.job.specs.Lines.{Steps}
 use Rattle.job.specs.declared.fault.Fault.{Fault}
 use Rattle.job.specs.declared.fault.Fault.TheVariants as Faults
-use Rattle.line_reader.specs.LineReader.{Advances}
-use Rattle.line_reader.specs.Script.{Script, Line}
+use Rattle.text.specs.LineReader.{Advances}
+use Rattle.text.specs.Script.{Script, Line}
 use Rattle.script.specs.Alerts.{Alert, Watched}
 use Rattle.script.specs.declared.faults.BadLine.{BadLine}
 use Rattle.script.specs.declared.faults.ScriptFault.{ScriptFault}

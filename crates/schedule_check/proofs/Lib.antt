@@ -4,8 +4,8 @@ pub mod ChangeLaws
 pub mod LineLaws
 pub mod MapLaws
 pub mod OpenLineLaws
-pub mod WindowLaws
 pub mod ShareLaws
 pub mod SharingLaws
 pub mod TellLaws
 pub mod TurnLaws
+pub mod WindowLaws

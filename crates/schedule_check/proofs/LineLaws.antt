@@ -1,7 +1,7 @@
 -- One line of schedule commands before the rest.
 use Rattle.std.proofs.Common.{◌≡◌, ℕ, Bool, List, Result, Ok, Err, true, false, ap}
 use Rattle.schedule_check.specs.Words.{words_of, Command, TcFault, bad_line, checked_in, is_command}
-use Rattle.line_reader.specs.Script.{Script, Line}
+use Rattle.text.specs.Script.{Script, Line}
 use Rattle.job.specs.Outcome.{Outcome}
 use Rattle.job.proofs.LineLaws.{behind, faulty}
 use Rattle.script.specs.declared.faults.BadLine.{BadLine}

@@ -2,9 +2,9 @@
 use Rattle.std.proofs.Common.{◌≡◌, ℕ, suc, ◌+◌, max, Bool, true, false, cond, ◌||◌, List, [], ◌∷◌, ◌++◌, length, slice_get, Some, None, ap, ◌∙◌, arith}
 use Rattle.std.specs.Prelude.{◌==◌, nat_le}
 use Rattle.std.specs.Option.{option_map_or}
-use Rattle.class_map.specs.Map.{map_of}
+use Rattle.abstract_port.specs.Map.{map_of}
 use Rattle.wire_time.specs.declared.TheConstants.{PRIORITIES}
-use Rattle.words.specs.Numbers.{number_in}
+use Rattle.text.specs.Numbers.{number_in}
 use Rattle.schedule_check.specs.Refusals.{leads_below, map_if_good, map_on, with_class}
 
 -- one priority more

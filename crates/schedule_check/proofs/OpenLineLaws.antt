@@ -2,7 +2,7 @@
 use Rattle.std.proofs.Common.{◌≡◌, ◌<◌, ◌≤◌, ℕ, zero, suc, ◌+◌, ◌-◌, ◌%◌, true, false, cond, List, [], ◌++◌, Option, inl, inr, sym, ap, ◌∙◌, subst, arith, append_assoc, append-nil, mod-lt, mod-eq_of_lt}
 use Rattle.std.proofs.lemmas.Bool.{cases_Bool, cases_lt}
 use Rattle.schedule_check.specs.Words.{Plan, in_ps, mask_at, opens, Sent, alone, open_total, open_lines}
-use Rattle.octet_writer.proofs.Fronts.{sent_none}
+use Rattle.text.proofs.Fronts.{sent_none}
 
 -- ---- lines
 

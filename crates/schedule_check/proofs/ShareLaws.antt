@@ -3,8 +3,8 @@ use Rattle.std.proofs.Common.{◌≡◌, ◌<◌, ◌≤◌, ℕ, zero, suc, ◌
 use Rattle.std.proofs.lemmas.Bool.{cases_lt, eq-eqb, ne_eqb}
 use Rattle.std.proofs.lemmas.Option.{slice_get_within}
 use Rattle.schedule_check.specs.Words.{Entry, Plan, IsShownAt, in_ps, prefix, mask_at, opens, alone, open_total}
-use Rattle.gate_list.proofs.PhaseLaws.{phase_is}
-use Rattle.gate_list.proofs.RowLaws.{prefix_next}
+use Rattle.gates.proofs.PhaseLaws.{phase_is}
+use Rattle.gates.proofs.RowLaws.{prefix_next}
 
 -- a class is open at no more picoseconds than there are
 pub total_le : (mask : ℕ → ℕ) (class n : ℕ) → open_total mask class n ≤ n

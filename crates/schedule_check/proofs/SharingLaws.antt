@@ -1,7 +1,7 @@
 -- Classes that share windows: in a cycle, so at all; and the others of a class, one after another.
 use Rattle.std.proofs.Common.{◌≡◌, ◌<◌, ◌≤◌, ℕ, zero, suc, ◌+◌, ◌-◌, ◌&&◌, ◌||◌, Bool, true, false, IsTrue, ◌↔◌, List, [], ◌++◌, inl, inr, refl, sym, ap, ◌∙◌, subst, arith, le_refl, append_assoc, append-nil}
 use Rattle.std.proofs.lemmas.Bool.{cases_Bool, cases_lt, false≢true}
-use Rattle.gate_list.proofs.OpenLaws.{open_at, open_from}
+use Rattle.gates.proofs.OpenLaws.{open_at, open_from}
 use Rattle.delay_bounds.specs.Walk.{may_by}
 use Rattle.shared_bounds.specs.Sharing.{Share}
 use Rattle.shared_bounds.proofs.ShareLaws.{none_shared}

@@ -3,7 +3,7 @@ use Rattle.std.proofs.Common.{◌≡◌, ◌<◌, ◌≤◌, ℕ, zero, suc, ◌
 use Rattle.std.proofs.Math.Nat.{div-add-mod, mul-add-mod_self_left}
 use Rattle.std.proofs.lemmas.Bool.{both_ways, cases_Bool, cases_lt}
 use Rattle.schedule_check.specs.Words.{occupancy_of, Stay, Lasts, Always, Plan, in_ps, mask_at, opens, open_while, Window, Teller, alone, turned, turned_mask, open_total, IsLongestOpen, IsOpenStay, IsLongestFrame, IsTeller, IsWindow}
-use Rattle.gate_list.proofs.OpenLaws.{open_at, open_from, open_within, shift_while}
+use Rattle.gates.proofs.OpenLaws.{open_at, open_from, open_within, shift_while}
 use Rattle.schedule_check.specs.declared.windows.Longest.{Longest}
 use Rattle.schedule_check.specs.declared.windows.Longest.TheVariants.{NoFrame, Octets, AnyFrame}
 use Rattle.schedule_check.proofs.WindowLaws.{can_start, fits_few, frame_fits, reaches_none}

@@ -6,10 +6,10 @@ use Rattle.std.proofs.lemmas.List.{length-map}
 use Rattle.std.proofs.lemmas.List.Elements.{All-head, All-tail}
 use Rattle.std.proofs.lemmas.List.Sums.{sum_by-cons}
 use Rattle.schedule_check.specs.Words.{Entry, PlanFault, Stay, Lasts, Always, Plan, in_ps, mask_at, opens, plan_with, plan_fault, ok_unless, open_while, alone, turned, turned_mask, turned_entry, turned_plan, IsOpenStay}
-use Rattle.gate_list.specs.declared.PlanFault.TheVariants.{IntervalTooShort}
-use Rattle.gate_list.specs.Gate.{IsGateList, first_shorter, least_interval, limits_fault, gate_fault}
-use Rattle.gate_list.proofs.GateLaws.{no_gate_fault}
-use Rattle.gate_list.proofs.OpenLaws.{same_while}
+use Rattle.gates.specs.declared.gate_list.PlanFault.TheVariants.{IntervalTooShort}
+use Rattle.gates.specs.Gate.{IsGateList, first_shorter, least_interval, limits_fault, gate_fault}
+use Rattle.gates.proofs.GateLaws.{no_gate_fault}
+use Rattle.gates.proofs.OpenLaws.{same_while}
 
 -- ---- the same times
 

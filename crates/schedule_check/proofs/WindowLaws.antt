@@ -5,11 +5,11 @@ use Rattle.std.proofs.lemmas.Bool.{both_ways, cases_lt, leb-true, le-leb}
 use Rattle.std.proofs.lemmas.Option.{slice_get_within, get_or_from_slice_get}
 use Rattle.std.proofs.lemmas.List.Elements.{All-get_or}
 use Rattle.schedule_check.specs.Words.{occupancy_of, Entry, Stay, Lasts, Always, Plan, IsShownAt, in_ps, prefix, mask_at, opens, open_while, stay_lasts, alone, IsLengthened, IsLongestOpen, IsOpenStay}
-use Rattle.gate_list.specs.Stay.{TellsOpenTime}
-use Rattle.gate_list.proofs.OpenLaws.{open_at, open_from, open_within, shift_while}
-use Rattle.gate_list.proofs.PhaseLaws.{phase_is}
-use Rattle.gate_list.proofs.RowLaws.{prefix_next}
-use Rattle.gate_list.proofs.TableLaws.{opens_none}
+use Rattle.gates.specs.Stay.{TellsOpenTime}
+use Rattle.gates.proofs.OpenLaws.{open_at, open_from, open_within, shift_while}
+use Rattle.gates.proofs.PhaseLaws.{phase_is}
+use Rattle.gates.proofs.RowLaws.{prefix_next}
+use Rattle.gates.proofs.TableLaws.{opens_none}
 use Rattle.schedule_check.specs.Windows.{CanStart}
 
 -- from some moment on a class is open for as long as a stay

@@ -6,12 +6,12 @@ use Rattle.abstract_port.specs.declared.Command.{Command}
 use Rattle.abstract_port.specs.declared.Command.TheVariants.{Replace, Delete}
 use Rattle.abstract_port.specs.declared.Refused.{Refused}
 use Rattle.abstract_port.specs.declared.Refused.TheVariants.{Schedule}
-use Rattle.gate_list.specs.Gate.{in_ps, plan_fault}
-use Rattle.gate_list.specs.declared.PlanFault.{PlanFault}
+use Rattle.gates.specs.Gate.{in_ps, plan_fault}
+use Rattle.gates.specs.declared.gate_list.PlanFault.{PlanFault}
 use Rattle.job.specs.Texts.{run_status}
 use Rattle.job.specs.declared.fault.Fault.{Fault}
 use Rattle.job.specs.declared.report.Ended.{Ended}
-use Rattle.line_reader.specs.Script.{Script, End, Broken, Line, script_of}
+use Rattle.text.specs.Script.{Script, End, Broken, Line, script_of}
 use Rattle.script.specs.Alerts.{Alert, Failed, Watched}
 use Rattle.script.specs.Texts.{script_telling}
 use Rattle.script.specs.declared.faults.BadLine.{BadLine}
@@ -19,9 +19,9 @@ use Rattle.script.specs.declared.faults.ScriptFault.{ScriptFault}
 use Rattle.script.specs.declared.settings.BadValue.{BadValue}
 use Rattle.script.specs.declared.watch.Failure.{Failure}
 use Rattle.script.specs.declared.watch.Failure.TheVariants as Failures
-use Rattle.tc_reader.specs.Reader.{IsReader}
-use Rattle.tc_reader.specs.declared.fault.TcFault.{TcFault}
-use Rattle.words.specs.Words.{words_of}
+use Rattle.port_text.specs.Reader.{IsReader}
+use Rattle.port_text.specs.declared.tc_reader.fault.TcFault.{TcFault}
+use Rattle.text.specs.Words.{words_of}
 use Rattle.schedule_check.specs.Checked.{is_command}
 use Rattle.schedule_check.specs.Refusals.{early_refusal, is_led, map_after, port_with}
 use Rattle.schedule_check.specs.Windows.{alone, open_total}

@@ -2,17 +2,17 @@
 use Rattle.std.specs.Prelude.{◌+◌, List, ℕ, zero, suc, [], ◌∷◌, ◌++◌, Option, Some, None, Result, Ok, Err, codes, if◌then◌else◌}
 use Rattle.std.specs.List.{concat, flat_map}
 use Rattle.wire_time.specs.declared.TheConstants.{CLASSES}
-use Rattle.class_map.specs.declared.ClassMap.{ClassMap}
-use Rattle.gate_list.specs.Gate.{keeps_apart, plan_fault}
-use Rattle.gate_list.specs.declared.Entry.{Entry}
-use Rattle.gate_list.specs.declared.PlanFault.{PlanFault}
+use Rattle.abstract_port.specs.declared.class_map.ClassMap.{ClassMap}
+use Rattle.gates.specs.Gate.{keeps_apart, plan_fault}
+use Rattle.gates.specs.declared.gate_list.Entry.{Entry}
+use Rattle.gates.specs.declared.gate_list.PlanFault.{PlanFault}
 use Rattle.abstract_port.specs.AbstractPort.{plan_asked}
 use Rattle.abstract_port.specs.declared.Change.{Change}
 use Rattle.abstract_port.specs.declared.Command.{Command}
 use Rattle.abstract_port.specs.declared.Command.TheVariants.{Replace, Delete}
 use Rattle.abstract_port.specs.declared.Refused.TheVariants.{Schedule}
-use Rattle.tc_reader.specs.declared.fault.TcFault.{TcFault}
-use Rattle.answer_text.specs.Lines.{refused_line, tc_fault_line}
+use Rattle.port_text.specs.declared.tc_reader.fault.TcFault.{TcFault}
+use Rattle.port_text.specs.AnswerLines.{refused_line, tc_fault_line}
 use Rattle.schedule_check.specs.Refusals.{is_led, map_after}
 use Rattle.schedule_check.specs.Shares.{class_word, sharing_line}
 use Rattle.schedule_check.specs.WindowLines.{asked_lines, told_line, waits_text}

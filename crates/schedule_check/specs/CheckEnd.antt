@@ -1,6 +1,6 @@
 -- What a check is asked for by the values of its options.
 use Rattle.std.specs.Prelude.{ℕ, ◌-◌, ◌^◌, Bool, false, List, Option, Some, None, Result, Ok, Err}
-use Rattle.class_map.specs.declared.ClassMap.{ClassMap}
+use Rattle.abstract_port.specs.declared.class_map.ClassMap.{ClassMap}
 use Rattle.schedule_check.specs.Refusals.{map_in, where_given}
 use Rattle.schedule_check.specs.declared.settings.CheckSettings.{CheckSettings}
 use Rattle.script.specs.Given.{GivenWords}
@@ -9,7 +9,7 @@ use Rattle.script.specs.Setup.{Setup}
 use Rattle.script.specs.declared.settings.BadValue.{BadValue}
 use Rattle.script.specs.declared.settings.BadValue.TheVariants as Values
 use Rattle.wire_time.specs.Moment.{greatest_moment}
-use Rattle.words.specs.Numbers.{number_in}
+use Rattle.text.specs.Numbers.{number_in}
 
 -- schedules are judged at a rate, for a new port of an mtu of 1500 octets, with what is shared and with windows, or without
 abbrev pub usual : (shares windows : Bool) → ℕ → CheckSettings

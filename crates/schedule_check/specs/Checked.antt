@@ -1,10 +1,10 @@
 -- What is reported of the lines of schedule commands, and the fault that ends them.
 use Rattle.std.specs.Prelude.{List, ℕ, [], ◌∷◌, ◌++◌, Bool, true, false, Some, None, Result, Ok, Err, codes, if◌then◌else◌}
 use Rattle.std.specs.Str.{bytes_eq}
-use Rattle.words.specs.Words.{words_of}
-use Rattle.line_reader.specs.Script.{Script, End, Broken, Line, script_of}
+use Rattle.text.specs.Words.{words_of}
+use Rattle.text.specs.Script.{Script, End, Broken, Line, script_of}
 use Rattle.abstract_port.specs.declared.Command.{Command}
-use Rattle.tc_reader.specs.declared.fault.TcFault.{TcFault}
+use Rattle.port_text.specs.declared.tc_reader.fault.TcFault.{TcFault}
 use Rattle.script.specs.Requests.{is_comment}
 use Rattle.job.specs.Outcome.{Outcome}
 use Rattle.script.specs.Outcome.{bad_line, long_line}

@@ -1,9 +1,9 @@
+pub mod Alerts
 pub mod Apart
 pub mod CheckEnd
-pub mod Refusals
 pub mod Checked
-pub mod Alerts
-pub mod Windows
+pub mod Refusals
 pub mod Shares
 pub mod WindowLines
+pub mod Windows
 pub mod Words

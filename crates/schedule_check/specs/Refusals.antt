@@ -5,11 +5,11 @@ use Rattle.wire_time.specs.declared.TheConstants.{PRIORITIES}
 use Rattle.abstract_port.specs.AbstractPort.{AbstractPort, first_of, limit_refusal, map_refusal, new_port, plain_queues}
 use Rattle.abstract_port.specs.declared.Change.{Change}
 use Rattle.abstract_port.specs.declared.Refused.{Refused}
-use Rattle.class_map.specs.Map.{map_of}
-use Rattle.class_map.specs.declared.ClassMap.{ClassMap}
-use Rattle.class_map.specs.declared.MapFault.{MapFault}
-use Rattle.words.specs.Numbers.{number_in}
-use Rattle.words.specs.Words.{words_of}
+use Rattle.abstract_port.specs.Map.{map_of}
+use Rattle.abstract_port.specs.declared.class_map.ClassMap.{ClassMap}
+use Rattle.abstract_port.specs.declared.class_map.MapFault.{MapFault}
+use Rattle.text.specs.Numbers.{number_in}
+use Rattle.text.specs.Words.{words_of}
 
 -- 1. A port that has a map already, or none
 

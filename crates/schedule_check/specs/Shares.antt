@@ -1,7 +1,7 @@
 -- Which classes share windows by a schedule, and their lines. What the end of the cycle cuts off opens nothing (IEEE Std 802.1Q-2018, 8.6.9.2).
 use Rattle.std.specs.Prelude.{ℕ, zero, suc, ◌+◌, ◌==◌, ◌&&◌, ◌||◌, Bool, false, not, List, [], ◌∷◌, ◌++◌, decimal, codes, if◌then◌else◌}
 use Rattle.std.specs.List.{concat, flat_map}
-use Rattle.gate_list.specs.Gate.{Plan, in_ps, opens}
+use Rattle.gates.specs.Gate.{Plan, in_ps, opens}
 use Rattle.schedule_check.specs.Windows.{alone}
 
 -- whether both classes are open at one of the first picoseconds

@@ -2,9 +2,9 @@
 use Rattle.std.specs.Prelude.{◌+◌, ◌-◌, ◌^◌, min, nat_lt, ◌==◌, List, ℕ, zero, suc, [], ◌∷◌, ◌++◌, Bool, true, false, Option, Some, None, decimal, codes, if◌then◌else◌}
 use Rattle.std.specs.List.{concat}
 use Rattle.delay_bounds.specs.LongestWait.{longest_wait}
-use Rattle.gate_list.specs.Gate.{Plan}
-use Rattle.gate_list.specs.declared.Stay.{Stay}
-use Rattle.gate_list.specs.declared.Stay.TheVariants.{Lasts, Always}
+use Rattle.gates.specs.Gate.{Plan}
+use Rattle.gates.specs.declared.gate_list.Stay.{Stay}
+use Rattle.gates.specs.declared.gate_list.Stay.TheVariants.{Lasts, Always}
 use Rattle.schedule_check.specs.declared.windows.Longest.{Longest}
 use Rattle.schedule_check.specs.declared.windows.Longest.TheVariants.{NoFrame, Octets, AnyFrame}
 use Rattle.schedule_check.specs.declared.windows.Window.{Window}

@@ -2,12 +2,12 @@
 -- (IEEE Std 802.1Q-2018, 8.6.8.4, 8.6.9.2).
 use Rattle.std.specs.Prelude.{◌≡◌, ◌<◌, ◌≤◌, ◌⊎◌, ℕ, zero, suc, ◌+◌, ◌-◌, Bool, true, false, map, Some, None, if◌then◌else◌}
 use Rattle.wire_time.specs.Wire.{occupancy_of}
-use Rattle.gate_list.specs.Gate.{Plan, in_ps, mask_since, opens, prefix}
-use Rattle.gate_list.specs.Open.{open_while}
-use Rattle.gate_list.specs.Stay.{TellsOpenTime, stay_lasts}
-use Rattle.gate_list.specs.declared.Entry.{Entry}
-use Rattle.gate_list.specs.declared.Stay.{Stay}
-use Rattle.gate_list.specs.declared.Stay.TheVariants.{Lasts, Always}
+use Rattle.gates.specs.Gate.{Plan, in_ps, mask_since, opens, prefix}
+use Rattle.gates.specs.Open.{open_while}
+use Rattle.gates.specs.Stay.{TellsOpenTime, stay_lasts}
+use Rattle.gates.specs.declared.gate_list.Entry.{Entry}
+use Rattle.gates.specs.declared.gate_list.Stay.{Stay}
+use Rattle.gates.specs.declared.gate_list.Stay.TheVariants.{Lasts, Always}
 use Rattle.schedule_check.specs.declared.windows.Longest.{Longest}
 use Rattle.schedule_check.specs.declared.windows.Longest.TheVariants.{NoFrame, Octets, AnyFrame}
 use Rattle.schedule_check.specs.declared.windows.Window.{Window}

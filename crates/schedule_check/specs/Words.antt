@@ -1,21 +1,21 @@
 -- The words of contracts and proofs, from one place.
 pub use Rattle.wire_time.specs.Wire.{occupancy_of}
 pub use Rattle.wire_time.specs.declared.TheConstants.{CLASSES}
-pub use Rattle.gate_list.specs.Gate.{IsShownAt, Plan, in_ps, mask_at, ok_unless, opens, plan_fault, plan_with, prefix}
-unfoldable pub use Rattle.gate_list.specs.Open.{open_while}
-pub use Rattle.gate_list.specs.Stay.{stay_lasts}
-pub use Rattle.gate_list.specs.declared.Entry.{Entry}
-pub use Rattle.gate_list.specs.declared.PlanFault.{PlanFault}
-pub use Rattle.gate_list.specs.declared.Stay.{Stay}
-pub use Rattle.gate_list.specs.declared.Stay.TheVariants.{Always, Lasts}
+pub use Rattle.gates.specs.Gate.{IsShownAt, Plan, in_ps, mask_at, ok_unless, opens, plan_fault, plan_with, prefix}
+unfoldable pub use Rattle.gates.specs.Open.{open_while}
+pub use Rattle.gates.specs.Stay.{stay_lasts}
+pub use Rattle.gates.specs.declared.gate_list.Entry.{Entry}
+pub use Rattle.gates.specs.declared.gate_list.PlanFault.{PlanFault}
+pub use Rattle.gates.specs.declared.gate_list.Stay.{Stay}
+pub use Rattle.gates.specs.declared.gate_list.Stay.TheVariants.{Always, Lasts}
 pub use Rattle.abstract_port.specs.AbstractPort.{plan_asked}
 pub use Rattle.abstract_port.specs.declared.Command.{Command}
-pub use Rattle.words.specs.Words.{words_of}
-pub use Rattle.octet_writer.specs.Writes.{Sent, Writes}
-pub use Rattle.line_reader.specs.LineReader.{current_number, script_left}
-pub use Rattle.tc_reader.specs.Reader.{IsReader}
-pub use Rattle.tc_reader.specs.declared.fault.TcFault.{TcFault}
-pub use Rattle.answer_text.specs.Part.{text_of}
+pub use Rattle.text.specs.Words.{words_of}
+pub use Rattle.text.specs.Writes.{Sent, Writes}
+pub use Rattle.text.specs.LineReader.{current_number, script_left}
+pub use Rattle.port_text.specs.Reader.{IsReader}
+pub use Rattle.port_text.specs.declared.tc_reader.fault.TcFault.{TcFault}
+pub use Rattle.port_text.specs.Part.{text_of}
 pub use Rattle.job.specs.Outcome.{RunsOut}
 pub use Rattle.script.specs.ScriptEnd.{IsEnding}
 pub use Rattle.script.specs.Given.{octets_of}

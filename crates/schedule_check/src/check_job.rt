@@ -1,7 +1,7 @@
 //! The program's second job: schedules are checked by the values of options.
 
 ghost use Rattle.std.specs.Prelude.{◌≡◌, IfErr};
-ghost use Rattle.octet_writer.specs.Buffered.{writer_contents};
+ghost use Rattle.text.specs.Buffered.{writer_contents};
 ghost use Rattle.schedule_check.specs.Alerts.{IsWatchedEnding};
 ghost use Rattle.schedule_check.specs.CheckEnd.{checks_given};
 ghost use Rattle.schedule_check.specs.Words.{whole_check, IsTeller, Teller, IsEnding, octets_of};
@@ -9,10 +9,10 @@ ghost use Rattle.schedule_check.specs.Words.{whole_check, IsTeller, Teller, IsEn
 use crate::schedules::check;
 use crate::settings::{CheckWords, checks_given};
 use job::{Ended, Errors, end_run};
-use octet_writer::BufWriter;
 use script::{Watch, end_with_value};
 use std::alloc::Allocator;
 use std::io::{Read, Write};
+use text::octet_writer::BufWriter;
 
 /// Checks the schedules that `reader` gives, as these words ask for it, through `answers`, with the text of a fault on
 /// `errors`; and gives the writer of the answers back. What was reported is let out before a fault is; after a failed

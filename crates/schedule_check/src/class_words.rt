@@ -3,7 +3,7 @@
 ghost use Rattle.schedule_check.specs.Words.{class_word, Writes};
 ghost use Rattle.std.specs.List.{flat_map};
 
-use answer_text::{Part, WriteFault, put_parts};
+use port_text::answer_text::{Part, WriteFault, put_parts};
 use std::io::Write;
 
 /// Writes a space and the number of a class.

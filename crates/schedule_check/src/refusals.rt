@@ -1,19 +1,19 @@
 //! Why a port refuses a command that is judged by itself, and the map that it may have already.
 
 ghost use Rattle.std.specs.Prelude.{◌≡◌, Option, ℕ};
-ghost use Rattle.class_map.specs.Map.{map_of};
-ghost use Rattle.class_map.specs.declared.ClassMap.{ClassMap};
+ghost use Rattle.abstract_port.specs.Map.{map_of};
+ghost use Rattle.abstract_port.specs.declared.class_map.ClassMap.{ClassMap};
 ghost use Rattle.schedule_check.specs.Refusals.{early_refusal, is_led, leads_below, map_after, map_if_good, map_in, port_with, where_given};
 ghost use Rattle.schedule_check.specs.Words.{octets_of};
 ghost use Rattle.wire_time.specs.declared.TheConstants.{PRIORITIES};
 ghost use Rattle.abstract_port.specs.AbstractPort.{limit_refusal, map_refusal};
 
+use abstract_port::class_map::{ClassMap, Queues};
 use abstract_port::{Change, Refused};
 use arrayvec::ArrayVec;
-use class_map::{ClassMap, Queues};
 use port::{changes_map, changes_queues, first_over};
+use text::words::{Words, number};
 use wire_time::PRIORITIES;
-use words::{Words, number};
 
 /// The refusal for its map or its queue ranges that a change meets at a port that has this map already, with one queue
 /// a class, or none.

@@ -11,14 +11,14 @@ use crate::settings::CheckSettings;
 use crate::share_lines::put_shares;
 use crate::window_lines::put_asked;
 use crate::windows::shares_of;
+use abstract_port::class_map::ClassMap;
 use abstract_port::{Change, Command, Refused};
-use answer_text::{WriteFault, put, put_refused, put_tc_fault};
 use arrayvec::ArrayVec;
-use class_map::ClassMap;
-use gate_list::Schedule;
+use gates::gate_list::Schedule;
+use port_text::answer_text::{WriteFault, put, put_refused, put_tc_fault};
+use port_text::tc_reader::TcFault;
 use script::{Failure, Watch, read_tc};
 use std::io::Write;
-use tc_reader::TcFault;
 use wire_time::CLASSES;
 
 /// How many classes a change speaks of: those of its map, or all.

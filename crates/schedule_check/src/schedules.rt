@@ -9,11 +9,11 @@ ghost use Rattle.script.specs.Alerts.{Watched};
 use crate::schedule_report::put_line;
 use crate::settings::CheckSettings;
 use job::next_line;
-use line_reader::LineReader;
 use script::{BadLine, RunFault, ScriptFault, Watch};
 use std::alloc::Allocator;
 use std::io::{Read, Write};
-use words::Words;
+use text::line_reader::LineReader;
+use text::words::Words;
 
 /// Whether a line is a schedule command. It is skipped where it has no words or is a comment, and any other line where
 /// it is one of a script.

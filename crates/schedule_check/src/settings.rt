@@ -6,10 +6,10 @@ ghost use Rattle.schedule_check.specs.Refusals.{where_given};
 ghost use Rattle.schedule_check.specs.Words.{octets_of};
 
 use crate::refusals::given_map;
-use class_map::ClassMap;
+use abstract_port::class_map::ClassMap;
 use script::{BadValue, Values, settings_given};
+use text::words::number;
 use wire_time::{MAX_MOMENT, Rate};
-use words::number;
 
 /// What schedules are judged by, and what is reported of them.
 #[derive(Clone, Copy, Debug, PartialEq, Eq)]

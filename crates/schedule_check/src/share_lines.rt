@@ -4,9 +4,9 @@ ghost use Rattle.std.specs.Prelude.{◌≡◌, ◌<◌, ◌≤◌, ◌+◌, ◌+
 ghost use Rattle.schedule_check.specs.Words.{array_vec_len, asked_lines, classes_sharing, is_sharing, itself_sharing, open_lines, shares_line, sharing_line, with_line, Writes, CLASSES};
 
 use crate::class_words::put_classes;
-use answer_text::{Part, WriteFault, put, put_parts};
 use arrayvec::ArrayVec;
-use gate_list::Schedule;
+use gates::gate_list::Schedule;
+use port_text::answer_text::{Part, WriteFault, put, put_parts};
 use shared_bounds::sharing::shares_windows;
 use std::io::Write;
 use wire_time::CLASSES;

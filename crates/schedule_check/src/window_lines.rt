@@ -9,9 +9,9 @@ use crate::windows::{
     Longest, Window, longest_closed, longest_open, shares_of, turned_schedule, window_of,
 };
 use abstract_port::Change;
-use answer_text::{Part, WriteFault, put, put_parts};
 use delay_bounds::longest_wait;
-use gate_list::{Schedule, Stay};
+use gates::gate_list::{Schedule, Stay};
+use port_text::answer_text::{Part, WriteFault, put, put_parts};
 use std::io::Write;
 use wire_time::{Rate, occupancy};
 

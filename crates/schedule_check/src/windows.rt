@@ -5,7 +5,7 @@ ghost use Rattle.std.specs.Prelude.{◌≡◌, ◌<◌, ◌≤◌, ◌^◌, ◌+
 ghost use Rattle.schedule_check.specs.Words.{in_ps, ok_unless, opens, plan_fault, plan_with, Lasts, IsLengthened, IsLonger, IsLongestFrame, IsOpenStay, IsWindow, Plan, alone, open_total, turned, turned_entry, turned_plan, CLASSES};
 
 use arrayvec::ArrayVec;
-use gate_list::{Entry, GateList, MAX_ENTRIES, PlanFault, Schedule, Stay, Visits, is_open};
+use gates::gate_list::{Entry, GateList, MAX_ENTRIES, PlanFault, Schedule, Stay, Visits, is_open};
 use std::marker::Model;
 use wire_time::{CLASSES, Rate};
 
@@ -45,7 +45,7 @@ pub struct Windows {
 /// A contract sees the schedule's plan.
 impl Model for Windows {
     ghost use Rattle.std.specs.Prelude.{◌≡◌};
-    ghost use Rattle.gate_list.specs.Gate.{Plan};
+    ghost use Rattle.gates.specs.Gate.{Plan};
     ghost use Rattle.schedule_check.specs.Windows.{turned_plan};
 
     ghost Value = { Plan };

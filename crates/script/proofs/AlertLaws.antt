@@ -15,8 +15,8 @@ use Rattle.job.specs.RunEnd.{IsOrFails}
 use Rattle.job.specs.declared.fault.Fault.TheVariants as Faults
 use Rattle.job.specs.declared.halt.Halt.{Halt}
 use Rattle.job.specs.declared.halt.Halt.TheVariants as Halts
-use Rattle.octet_writer.specs.declared.WriteFault.{WriteFault}
-use Rattle.separation.specs.Settled.{IsSettling}
+use Rattle.text.specs.declared.octet_writer.WriteFault.{WriteFault}
+use Rattle.abstract_port.specs.Settled.{IsSettling}
 use Rattle.script.specs.Alerts.{Alert, AlertedFront, Alerting, Left, Watched, alerts_from, alerts_of, alert_of, end_alerts, end_unless, left_alert, refused_alert, run_alerts}
 use Rattle.script.specs.Outcome.{Reading}
 use Rattle.script.specs.Told.{Given, Hearing, Otherwise, Told, Tells, told_answer, told_answers, told_of, told_to}

@@ -5,12 +5,12 @@ use Rattle.std.specs.List.{list_all}
 use Rattle.std.proofs.lemmas.List.{append-nil, length-drop, take-append-drop}
 use Rattle.std.proofs.Math.Seq.{get_or-append_seam}
 use Rattle.script.specs.Words.{greatest_moment, Event, Arrive, Clock, words_of, said_in, clock_event, frame_event, tag_in, BeginsWithEvent, BeginsWithLine, HasLine, tag_text, ScriptFault}
-use Rattle.words.specs.Numbers.{BeginsWithNumber, IsNumber, is_digit}
-use Rattle.words.specs.Words.{starts_blank, starts_with_break}
-use Rattle.words.proofs.FrontLaws.{number_before}
-use Rattle.line_reader.specs.Script.{joins}
-use Rattle.line_reader.specs.PhysicalLines.{is_unbroken}
-use Rattle.line_reader.specs.LineReader.{EndsLine}
+use Rattle.text.specs.Numbers.{BeginsWithNumber, IsNumber, is_digit}
+use Rattle.text.specs.Words.{starts_blank, starts_with_break}
+use Rattle.text.proofs.FrontLaws.{number_before}
+use Rattle.text.specs.Script.{joins}
+use Rattle.text.specs.PhysicalLines.{is_unbroken}
+use Rattle.text.specs.LineReader.{EndsLine}
 use Rattle.script.specs.Requests.{said}
 use Rattle.script.specs.Plain.{is_plain}
 use Rattle.script.proofs.PlainLaws.{plain_clock, plain_frame}

@@ -6,7 +6,7 @@ use Rattle.script.specs.Words.{greatest_moment, AbstractPort, settled, answers_t
 use Rattle.abstract_port.specs.AbstractPort.{installs}
 use Rattle.abstract_port.specs.declared.Event.TheVariants.{Install}
 use Rattle.abstract_port.specs.declared.Refused.{Refused}
-use Rattle.answer_text.specs.Lines.{tc_fault_line}
+use Rattle.port_text.specs.AnswerLines.{tc_fault_line}
 use Rattle.abstract_port.specs.declared.Answer.TheVariants as Answered
 use Rattle.script.proofs.OutputLaws.{lines_of_answers}
 use Rattle.script.proofs.StartsLaws.{settled-sound}

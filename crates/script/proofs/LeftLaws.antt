@@ -2,7 +2,7 @@
 use Rattle.std.proofs.Common.{◌≡◌, ◌<◌, ◌≤◌, ◌+◌, ◌-◌, ℕ, zero, suc, [], length, ◌++◌, Option, Some, None, cond, refl, sym, ap, ◌∙◌, append_assoc, arith}
 use Rattle.std.proofs.lemmas.Bool.{ne_eqb}
 use Rattle.script.specs.Words.{AbstractPort, counters_of, queue_of, settled, end_lines, left_from, left_lines, left_text, class_text, classes_from, summary_lines, wire_text, Observed, class_at}
-use Rattle.answer_text.specs.Lines.{left_line}
+use Rattle.port_text.specs.AnswerLines.{left_line}
 
 pub left-class : (class : ℕ) (p : AbstractPort) → class < 8 → left_from (8 - class) class p ≡ left_text class (length (queue_of p class)) ++ left_from (8 - (class + 1)) (class + 1) p
 unfolding left_from

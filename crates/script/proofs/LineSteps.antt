@@ -3,11 +3,11 @@ use Rattle.std.proofs.Common.{◌≡◌, ◌≤◌, ℕ, List, [], ◌∷◌, �
 use Rattle.std.proofs.lemmas.List.{append-nil, drop-drop, length-drop}
 use Rattle.abstract_port.specs.Answers.{port_after}
 use Rattle.abstract_port.specs.declared.Event.TheVariants.{Arrive, Count, Install, Query}
-use Rattle.line_reader.specs.LineReader.{EndsLine, hand, lines_left, script_past}
-use Rattle.line_reader.specs.declared.lines.TheConstants.{MAX_LINE_OCTETS}
-use Rattle.line_reader.specs.declared.lines.LineReader.{LineReader}
-use Rattle.line_reader.proofs.RunLaws.{none_passed, one_passed, unended}
-use Rattle.separation.specs.Settled.{IsPossible, IsSettling}
+use Rattle.text.specs.LineReader.{EndsLine, hand, lines_left, script_past}
+use Rattle.text.specs.declared.line_reader.lines.TheConstants.{MAX_LINE_OCTETS}
+use Rattle.text.specs.declared.line_reader.lines.LineReader.{LineReader}
+use Rattle.text.proofs.LineRunLaws.{none_passed, one_passed, unended}
+use Rattle.abstract_port.specs.Settled.{IsPossible, IsSettling}
 use Rattle.script.specs.Told.{cause_of, told_answers, told_to}
 use Rattle.script.specs.Words.{AbstractPort, Advances, Asks, Clock, Event, Gave, IsCommandInHand, IsSoundPort, NoCommand, Observed, Request, answers_to, end_lines, ending_text, lines_of, noted_after, noted_at, responses_to, script_left, seen_all, settled}
 use Rattle.script.proofs.LeftLaws.{end-settled}

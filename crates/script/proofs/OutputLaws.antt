@@ -2,7 +2,7 @@
 use Rattle.std.proofs.Common.{◌≡◌, ◌≤◌, ℕ, List, [], ◌∷◌, ◌++◌, map, Option, Some, None, Result, refl, sym, ap, ◌∙◌, append_assoc}
 use Rattle.script.specs.Words.{AbstractPort, answers_to, Answer, Command, TcFault, script_of, Request, Asks, NoCommand, Gave, events_of, lines_of, noted_by, responses_to, BadLine, IsFaithfulTo, asked_in, outcome_after, reading_of, Setup, Observed, noted_after}
 use Rattle.abstract_port.specs.Answers.{answers_of, port_after}
-use Rattle.separation.specs.Promises.{IsKeepingPromises}
+use Rattle.abstract_port.specs.Promises.{IsKeepingPromises}
 use Rattle.script.specs.Responses.{Response, answers_in, response_lines, responses_of}
 use Rattle.job.proofs.LineLaws.{behind}
 use Rattle.script.specs.Outcome.{Reading, asked_with, end_unless}

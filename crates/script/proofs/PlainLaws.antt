@@ -3,7 +3,7 @@ use Rattle.std.proofs.Common.{◌≡◌, ◌≤◌, ◌^◌, ◌-◌, ℕ, Bool,
 use Rattle.std.specs.Str.{bytes_eq}
 use Rattle.std.proofs.lemmas.Bool.{le-leb, le-ltb}
 use Rattle.script.specs.Words.{Event, Arrive, Clock, greatest_moment, words_of, behind_first, ScriptFault, clock_event, frame_event, frame_with, tag_in}
-use Rattle.words.specs.Numbers.{at_most, first_number, number_in}
+use Rattle.text.specs.Numbers.{at_most, first_number, number_in}
 use Rattle.script.specs.declared.faults.ScriptFault.TheVariants.{ClockTooLate, WordCount}
 use Rattle.script.specs.Requests.{clock_with, frame_in_words}
 

@@ -2,8 +2,8 @@
 use Rattle.std.proofs.Common.{◌≡◌, ℕ, List, Option, Some, None, Result, Ok, Err, ap, refl, subst}
 use Rattle.std.specs.Prelude.{IfErr, IfSome, MatchResult, option_map}
 use Rattle.script.specs.Words.{Command, TcFault, Script, script_of}
-use Rattle.tc_reader.specs.Grammar.{IsCommand}
-use Rattle.tc_reader.specs.Lines.{HasFault}
+use Rattle.port_text.specs.Grammar.{IsCommand}
+use Rattle.port_text.specs.TcLines.{HasFault}
 
 pub says_command : (line : List (List ℕ)) (command : Command) (read : Result Command TcFault)
     → ((c d : Command) → IsCommand line c → IsCommand line d → c ≡ d) → ((c : Command) (f : TcFault) → IsCommand line c → HasFault line f → ⊥)

@@ -7,10 +7,10 @@ use Rattle.job.specs.Halts.{fault_of_halt, halted}
 use Rattle.job.specs.declared.fault.Fault.TheVariants as Faults
 use Rattle.job.specs.declared.halt.Halt.{Halt}
 use Rattle.job.specs.declared.halt.Halt.TheVariants as Halts
-use Rattle.octet_writer.specs.Writes.{AppendsFront, Writes}
-use Rattle.octet_writer.specs.declared.WriteFault.{WriteFault}
-use Rattle.octet_writer.proofs.Fronts.{Appends-append}
-use Rattle.separation.specs.Settled.{IsSettling}
+use Rattle.text.specs.Writes.{AppendsFront, Writes}
+use Rattle.text.specs.declared.octet_writer.WriteFault.{WriteFault}
+use Rattle.text.proofs.Fronts.{Appends-append}
+use Rattle.abstract_port.specs.Settled.{IsSettling}
 use Rattle.script.specs.Outcome.{Reading, clock_after}
 use Rattle.script.specs.Told.{told_of, told_to}
 use Rattle.script.specs.ToldLaws.{Lined, LinedFront}

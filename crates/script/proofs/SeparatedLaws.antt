@@ -2,7 +2,7 @@
 use Rattle.std.proofs.Common.{◌≡◌, ◌≤◌, ℕ, List, [], ◌∷◌, Bool, true, false, cond, refl, sym, ap, ◌∙◌}
 use Rattle.std.specs.List.{flat_map}
 use Rattle.script.specs.Words.{AbstractPort, new_port, answers_to, Event, answer_lines, Request, Asks, NoCommand, events_of}
-use Rattle.separation.specs.Separation.{IsSeparation, Noted, is_other, only}
+use Rattle.abstract_port.specs.Separation.{IsSeparation, Noted, is_other, only}
 use Rattle.script.specs.Separated.{IsSeparatedBy, lines_concerning, only_asked}
 
 one_more : (event : Event) (other : Bool) (requests : List Request) (events : List Event) → events_of requests ≡ events

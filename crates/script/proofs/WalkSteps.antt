@@ -6,11 +6,11 @@ use Rattle.job.specs.Halts.{fault_of_halt}
 use Rattle.job.specs.declared.fault.Fault.TheVariants as Faults
 use Rattle.job.specs.declared.halt.Halt.{Halt}
 use Rattle.job.specs.declared.halt.Halt.TheVariants as Halts
-use Rattle.line_reader.specs.LineReader.{hand, lines_left, script_past}
-use Rattle.line_reader.specs.declared.lines.LineReader.{LineReader}
-use Rattle.line_reader.proofs.RunLaws.{none_passed}
+use Rattle.text.specs.LineReader.{hand, lines_left, script_past}
+use Rattle.text.specs.declared.line_reader.lines.LineReader.{LineReader}
+use Rattle.text.proofs.LineRunLaws.{none_passed}
 use Rattle.port.proofs.FewLaws.{few_run}
-use Rattle.separation.specs.Settled.{IsSettling}
+use Rattle.abstract_port.specs.Settled.{IsSettling}
 use Rattle.script.specs.Outcome.{Reading, with_line}
 use Rattle.script.specs.Told.{Hearing, Told, told_of, told_to}
 use Rattle.script.specs.Walked.{IsTaken, StepsHeard, Walked}

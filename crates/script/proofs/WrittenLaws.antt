@@ -4,9 +4,9 @@ use Rattle.std.specs.Io.KnownBytes.{Appends, Keeps}
 use Rattle.abstract_port.specs.Answers.{command_answer}
 use Rattle.abstract_port.specs.declared.Answer.{Answer}
 use Rattle.abstract_port.specs.declared.Refused.{Refused}
-use Rattle.octet_writer.specs.Writes.{AppendsFront, FallsShort, Writes}
-use Rattle.octet_writer.specs.declared.WriteFault.{WriteFault}
-use Rattle.octet_writer.proofs.Fronts.{Appends-nil, sent_none}
+use Rattle.text.specs.Writes.{AppendsFront, FallsShort, Writes}
+use Rattle.text.specs.declared.octet_writer.WriteFault.{WriteFault}
+use Rattle.text.proofs.Fronts.{Appends-nil, sent_none}
 use Rattle.job.specs.Halts.{halted}
 use Rattle.job.specs.declared.halt.Halt.{Halt}
 use Rattle.job.proofs.RunEndLaws.{appends_kept, sent_kept}

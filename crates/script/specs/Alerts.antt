@@ -12,9 +12,9 @@ use Rattle.job.specs.Texts.{run_status}
 use Rattle.job.specs.declared.fault.Fault.{Fault}
 use Rattle.job.specs.declared.fault.Fault.TheVariants as Faults
 use Rattle.job.specs.declared.report.Ended.{Ended}
-use Rattle.line_reader.specs.Script.{script_of}
-use Rattle.tc_reader.specs.Reader.{IsReader}
-use Rattle.tc_reader.specs.declared.fault.TcFault.{TcFault}
+use Rattle.text.specs.Script.{script_of}
+use Rattle.port_text.specs.Reader.{IsReader}
+use Rattle.port_text.specs.declared.tc_reader.fault.TcFault.{TcFault}
 use Rattle.script.specs.Outcome.{Reading, clock_after, reading_of}
 use Rattle.script.specs.Responses.{events_of}
 use Rattle.script.specs.Setup.{Setup}

@@ -2,7 +2,7 @@
 use Rattle.std.specs.Prelude.{◌≡◌, ◌≤◌, ◌+◌, ◌*◌, ℕ, max, List, Option, Result, OnOk}
 use Rattle.abstract_port.specs.AbstractPort.{AbstractPort, PortState, settled}
 use Rattle.abstract_port.specs.Sound.{IsSoundPort}
-use Rattle.octet_writer.specs.Writes.{Writes}
+use Rattle.text.specs.Writes.{Writes}
 use Rattle.port.specs.Words.{longest}
 use Rattle.script.specs.Requests.{Request}
 use Rattle.script.specs.Responses.{lines_of, noted_by, responses_to}

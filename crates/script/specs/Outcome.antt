@@ -4,11 +4,11 @@ use Rattle.abstract_port.specs.AbstractPort.{AbstractPort, new_port}
 use Rattle.abstract_port.specs.Answers.{answers_of, port_after}
 use Rattle.abstract_port.specs.declared.Command.{Command}
 use Rattle.abstract_port.specs.declared.Event.TheVariants.{Clock}
-use Rattle.separation.specs.Promises.{KeepsPromises}
-use Rattle.tc_reader.specs.declared.fault.TcFault.{TcFault}
-use Rattle.line_reader.specs.Script.{Script, End, Broken, Line, script_of}
-use Rattle.line_reader.specs.declared.lines.Limit.{Limit}
-use Rattle.line_reader.specs.declared.lines.Limit.TheVariants as Limits
+use Rattle.abstract_port.specs.Promises.{KeepsPromises}
+use Rattle.port_text.specs.declared.tc_reader.fault.TcFault.{TcFault}
+use Rattle.text.specs.Script.{Script, End, Broken, Line, script_of}
+use Rattle.text.specs.declared.line_reader.lines.Limit.{Limit}
+use Rattle.text.specs.declared.line_reader.lines.Limit.TheVariants as Limits
 use Rattle.script.specs.Requests.{Request, Asks, request_of}
 use Rattle.script.specs.Responses.{answers_in, end_lines, events_of, lines_of, responses_of}
 use Rattle.summary.specs.Observed.{Observed}

@@ -2,12 +2,12 @@
 use Rattle.std.specs.Prelude.{◌≡◌, ◌<◌, ◌≤◌, ◌∷◌, ◌++◌, [], ℕ, List, Bool, true, false, Some, Ok, Result, codes, length, not, take, ◌&&◌, ◌==◌}
 use Rattle.std.specs.List.{list_all}
 use Rattle.abstract_port.specs.declared.Event.{Event}
-use Rattle.line_reader.specs.LineReader.{EndsLine, hand, lines_left}
-use Rattle.line_reader.specs.declared.lines.LineReader.{LineReader}
-use Rattle.line_reader.specs.declared.lines.TheConstants.{MAX_LINE_OCTETS}
-use Rattle.line_reader.specs.Script.{joins}
-use Rattle.line_reader.specs.PhysicalLines.{is_unbroken}
-use Rattle.words.specs.Words.{words_of}
+use Rattle.text.specs.LineReader.{EndsLine, hand, lines_left}
+use Rattle.text.specs.declared.line_reader.lines.LineReader.{LineReader}
+use Rattle.text.specs.declared.line_reader.lines.TheConstants.{MAX_LINE_OCTETS}
+use Rattle.text.specs.Script.{joins}
+use Rattle.text.specs.PhysicalLines.{is_unbroken}
+use Rattle.text.specs.Words.{words_of}
 use Rattle.script.specs.Requests.{said_in}
 use Rattle.script.specs.declared.faults.ScriptFault.{ScriptFault}
 use Rattle.script.specs.declared.script_line.Said.TheVariants as Says

@@ -6,9 +6,9 @@ use Rattle.wire_time.specs.Moment.{greatest_moment}
 use Rattle.abstract_port.specs.declared.Command.{Command}
 use Rattle.abstract_port.specs.declared.Event.{Event}
 use Rattle.abstract_port.specs.declared.Event.TheVariants.{Arrive, Install, Clock, Query, Count}
-use Rattle.tc_reader.specs.declared.fault.TcFault.{TcFault}
-use Rattle.words.specs.Words.{words_of}
-use Rattle.words.specs.Numbers.{number_in}
+use Rattle.port_text.specs.declared.tc_reader.fault.TcFault.{TcFault}
+use Rattle.text.specs.Words.{words_of}
+use Rattle.text.specs.Numbers.{number_in}
 use Rattle.script.specs.declared.script_line.Said.{Said}
 use Rattle.script.specs.declared.script_line.Said.TheVariants as Says
 use Rattle.script.specs.declared.faults.ScriptFault.{ScriptFault}

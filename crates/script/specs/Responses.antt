@@ -6,8 +6,8 @@ use Rattle.abstract_port.specs.AbstractPort.{AbstractPort, queue_of}
 use Rattle.abstract_port.specs.Answers.{answers_to}
 use Rattle.abstract_port.specs.declared.Answer.{Answer}
 use Rattle.abstract_port.specs.declared.Event.{Event}
-use Rattle.answer_text.specs.Lines.{answer_lines, left_line, tc_fault_line}
-use Rattle.tc_reader.specs.declared.fault.TcFault.{TcFault}
+use Rattle.port_text.specs.AnswerLines.{answer_lines, left_line, tc_fault_line}
+use Rattle.port_text.specs.declared.tc_reader.fault.TcFault.{TcFault}
 use Rattle.script.specs.Requests.{Request, Asks, NoCommand}
 use Rattle.summary.specs.Lines.{summary_lines}
 use Rattle.summary.specs.Observed.{Observed}

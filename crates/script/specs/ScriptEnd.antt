@@ -4,8 +4,8 @@ use Rattle.abstract_port.specs.declared.Command.{Command}
 use Rattle.job.specs.RunEnd.{IsLetOut, IsRunEnding, IsUnanswered}
 use Rattle.job.specs.Outcome.{Outcome, RunsOut}
 use Rattle.job.specs.declared.report.Ended.{Ended}
-use Rattle.tc_reader.specs.declared.fault.TcFault.{TcFault}
-use Rattle.tc_reader.specs.Reader.{IsReader}
+use Rattle.port_text.specs.declared.tc_reader.fault.TcFault.{TcFault}
+use Rattle.port_text.specs.Reader.{IsReader}
 use Rattle.script.specs.Given.{GivenWords}
 use Rattle.script.specs.Setup.{Setup}
 use Rattle.script.specs.Settings.{settings_of, summarized}

@@ -5,10 +5,10 @@ use Rattle.abstract_port.specs.AbstractPort.{AbstractPort, new_port}
 use Rattle.abstract_port.specs.Answers.{answers_to}
 use Rattle.abstract_port.specs.declared.Command.{Command}
 use Rattle.abstract_port.specs.declared.Event.{Event}
-use Rattle.answer_text.specs.Lines.{answer_lines}
-use Rattle.line_reader.specs.Script.{script_of}
-use Rattle.separation.specs.Separation.{IsKeptApart, concerning, is_other, noted}
-use Rattle.tc_reader.specs.declared.fault.TcFault.{TcFault}
+use Rattle.port_text.specs.AnswerLines.{answer_lines}
+use Rattle.text.specs.Script.{script_of}
+use Rattle.abstract_port.specs.Separation.{IsKeptApart, concerning, is_other, noted}
+use Rattle.port_text.specs.declared.tc_reader.fault.TcFault.{TcFault}
 use Rattle.script.specs.Outcome.{asked_in, reading_of}
 use Rattle.script.specs.Requests.{Request, Asks, NoCommand}
 use Rattle.script.specs.Responses.{events_of}

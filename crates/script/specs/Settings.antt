@@ -3,8 +3,8 @@ use Rattle.std.specs.Prelude.{◌^◌, ◌-◌, nat_le, List, ℕ, Bool, true, f
 use Rattle.wire_time.specs.Moment.{greatest_moment}
 use Rattle.wire_time.specs.Wire.{rate_of}
 use Rattle.wire_time.specs.declared.RateFault.{RateFault}
-use Rattle.words.specs.Numbers.{number_in}
-use Rattle.times.specs.Times.{moment_in}
+use Rattle.text.specs.Numbers.{number_in}
+use Rattle.text.specs.Times.{moment_in}
 use Rattle.port.specs.Limits.{is_mtu, is_room}
 use Rattle.script.specs.Setup.{Setup}
 use Rattle.script.specs.declared.settings.BadValue.{BadValue}

@@ -3,7 +3,7 @@ use Rattle.std.specs.Prelude.{◌≤◌, ℕ, Bool, Option}
 use Rattle.std.specs.Option.{ForSome}
 use Rattle.wire_time.specs.Moment.{greatest_moment}
 use Rattle.abstract_port.specs.Sound.{IsMtu}
-use Rattle.class_queue.specs.Queue.{IsRoom}
+use Rattle.abstract_port.specs.Queue.{IsRoom}
 
 -- what a run has
 pub record Setup : Type 0 where

@@ -1,8 +1,8 @@
 -- What the laws of an observer that writes lines need: lists, and nothing of a walk.
 use Rattle.std.proofs.Common.{◌≡◌, ℕ, List, [], ◌++◌, Option, refl, sym, ap, ◌∙◌, subst, append_assoc}
 use Rattle.std.specs.Io.KnownBytes.{Appends}
-use Rattle.octet_writer.specs.Writes.{AppendsFront}
-use Rattle.octet_writer.proofs.Fronts.{Appends-append, Appends-nil}
+use Rattle.text.specs.Writes.{AppendsFront}
+use Rattle.text.proofs.Fronts.{Appends-append, Appends-nil}
 use Rattle.script.specs.Told.{Told}
 use Rattle.script.specs.ToldLines.{lines-both, noted-both, noted_told, told_lines}
 use Rattle.summary.specs.Observed.{Observed}

@@ -5,7 +5,7 @@ use Rattle.abstract_port.specs.AbstractPort.{AbstractPort}
 use Rattle.abstract_port.specs.Answers.{answers_to}
 use Rattle.abstract_port.specs.declared.Answer.{Answer}
 use Rattle.abstract_port.specs.declared.Answer.TheVariants as Answers
-use Rattle.answer_text.specs.Lines.{answer_lines, tc_fault_line}
+use Rattle.port_text.specs.AnswerLines.{answer_lines, tc_fault_line}
 use Rattle.script.specs.Requests.{Request, Asks, NoCommand}
 use Rattle.script.specs.Responses.{Response, Gave, lines_of, noted_by, response_lines, responses_of, responses_to}
 use Rattle.script.specs.Told.{Told, Answered, Misread, Cause, cause_of, told_answer, told_answers, told_of, told_to}

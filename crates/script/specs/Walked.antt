@@ -7,11 +7,11 @@ use Rattle.abstract_port.specs.Sound.{IsSoundPort}
 use Rattle.job.specs.declared.fault.Fault.{Fault}
 use Rattle.job.specs.declared.fault.Fault.TheVariants as Faults
 use Rattle.job.specs.declared.halt.Halt.{Halt}
-use Rattle.line_reader.specs.LineReader.{Advances}
-use Rattle.line_reader.specs.Script.{Script}
-use Rattle.line_reader.specs.declared.lines.Limit.{Limit}
-use Rattle.line_reader.specs.declared.lines.LineFault.TheVariants as LineFaults
-use Rattle.octet_writer.specs.Writes.{AppendsFront}
+use Rattle.text.specs.LineReader.{Advances}
+use Rattle.text.specs.Script.{Script}
+use Rattle.text.specs.declared.line_reader.lines.Limit.{Limit}
+use Rattle.text.specs.declared.line_reader.lines.LineFault.TheVariants as LineFaults
+use Rattle.text.specs.Writes.{AppendsFront}
 use Rattle.script.specs.Answered.{HasFewVisits}
 use Rattle.script.specs.Outcome.{Reading, clock_after, long_line}
 use Rattle.script.specs.Requests.{Request}

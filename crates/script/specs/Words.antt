@@ -1,7 +1,7 @@
 -- The words of contracts and proofs, from one place.
 pub use Rattle.wire_time.specs.Moment.{greatest_moment}
 pub use Rattle.wire_time.specs.declared.TheConstants.{MIN_MTU, MIN_PS_PER_OCTET}
-pub use Rattle.class_queue.specs.Queue.{IsRoom}
+pub use Rattle.abstract_port.specs.Queue.{IsRoom}
 pub use Rattle.abstract_port.specs.AbstractPort.{AbstractPort, PortState, counters_of, new_port, queue_of, settled}
 pub use Rattle.abstract_port.specs.Answers.{answers_to, command_answer}
 pub use Rattle.abstract_port.specs.Asked.{answers_left}
@@ -10,15 +10,15 @@ pub use Rattle.abstract_port.specs.declared.Answer.{Answer}
 pub use Rattle.abstract_port.specs.declared.Command.{Command}
 pub use Rattle.abstract_port.specs.declared.Event.{Event}
 pub use Rattle.abstract_port.specs.declared.Event.TheVariants.{Arrive, Clock}
-pub use Rattle.words.specs.Numbers.{behind_first}
-pub use Rattle.words.specs.Words.{words_of}
-pub use Rattle.words.specs.WordsLeft.{words_left}
-pub use Rattle.octet_writer.specs.Writes.{Sent, Writes}
-pub use Rattle.line_reader.specs.LineReader.{Advances, most_lines, script_left}
-pub use Rattle.line_reader.specs.Script.{Script, script_of}
-pub use Rattle.tc_reader.specs.Reader.{IsReader}
-pub use Rattle.tc_reader.specs.declared.fault.TcFault.{TcFault}
-pub use Rattle.answer_text.specs.Lines.{answer_lines}
+pub use Rattle.text.specs.Numbers.{behind_first}
+pub use Rattle.text.specs.Words.{words_of}
+pub use Rattle.text.specs.WordsLeft.{words_left}
+pub use Rattle.text.specs.Writes.{Sent, Writes}
+pub use Rattle.text.specs.LineReader.{Advances, most_lines, script_left}
+pub use Rattle.text.specs.Script.{Script, script_of}
+pub use Rattle.port_text.specs.Reader.{IsReader}
+pub use Rattle.port_text.specs.declared.tc_reader.fault.TcFault.{TcFault}
+pub use Rattle.port_text.specs.AnswerLines.{answer_lines}
 pub use Rattle.job.specs.Outcome.{RunsOut}
 pub use Rattle.job.specs.Texts.{IsTold}
 pub use Rattle.job.specs.declared.fault.Fault.{Fault}

@@ -5,16 +5,16 @@ ghost use Rattle.std.specs.Io.KnownBytes.{Keeps};
 
 use crate::observer::Observer;
 use abstract_port::{Command, Counters, Dropped, Refused, Report, Start};
-use answer_text::{
+use job::{Halt, halted};
+use port_text::answer_text::{
     NearNumbers, put, put_arrival, put_counters, put_installation, put_report, put_start,
     put_tc_fault,
 };
-use job::{Halt, halted};
-use octet_writer::PutLine;
+use port_text::tc_reader::TcFault;
 use std::alloc::Allocator;
 use std::io::Write;
 use summary::{Summary, note_start, note_verdict};
-use tc_reader::TcFault;
+use text::octet_writer::PutLine;
 use wire_time::Frame;
 
 /// Writes each answer as a line, and notes it where a summary is wanted. At a fault a prefix of the line is written.

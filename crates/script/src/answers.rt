@@ -8,17 +8,17 @@ ghost use Rattle.abstract_port.specs.declared.Event.TheVariants as Events;
 use crate::script_line::read_tc_into;
 use crate::watch::{Failure, Watch};
 use abstract_port::{Command, Dropped, Event, Refused};
-use answer_text::{
+use jumping::Jumping;
+use port::Port;
+use port_text::answer_text::{
     NearNumbers, WriteFault, put, put_arrival, put_counters, put_installation, put_left,
     put_report, put_start, put_tc_fault,
 };
-use jumping::Jumping;
-use octet_writer::PutLine;
-use port::Port;
+use port_text::tc_reader::{CommandPlace, TcFault};
 use std::alloc::Allocator;
 use std::io::Write;
 use summary::{Summary, note_start, note_verdict};
-use tc_reader::{CommandPlace, TcFault};
+use text::octet_writer::PutLine;
 use wire_time::{CLASSES, Frame, MAX_MOMENT};
 
 /// The port that runs. Another implementation of the gates takes the place of this one here.

@@ -4,10 +4,10 @@ ghost use Rattle.std.specs.Prelude.{◌≡◌};
 ghost use Rattle.script.specs.Words.{IsTold, Writes, line_kind, line_text, option_name, script_fault_name, script_kind, script_telling, table_kind, value_text, bad_line, limit_fault, long_line};
 
 use crate::settings::BadValue;
-use answer_text::{Part, WriteFault, put_parts};
 use job::{Ended, Fault, FaultKind, InputFault, LineInput, LineKind};
-use line_reader::Limit;
+use port_text::answer_text::{Part, WriteFault, put_parts};
 use std::io::Write;
+use text::line_reader::Limit;
 use thiserror::Error;
 
 /// What is wrong with a line of a script.

@@ -3,7 +3,7 @@
 ghost use Rattle.std.specs.Prelude.{◌≤◌, ℕ, List, Result};
 ghost use Rattle.script.specs.Words.{Command, TcFault, IsFaithfulTo, IsSeparatedIn, Setup, MIN_MTU, MIN_PS_PER_OCTET};
 
-use separation::separation;
+use abstract_port::separation::separation;
 
 /// What is reported of a script is the abstract port's answers to its events. In each output every `start` line has its
 /// gate open from its start to its end, by the history of its time and by that at the script's end; no two frames are

@@ -7,7 +7,7 @@ ghost use Rattle.script.specs.Told.{Told, Answered, Misread, Came, Given, Otherw
 
 use abstract_port::{Command, Counters, Dropped, Refused, Report, Start};
 use job::Halt;
-use tc_reader::TcFault;
+use port_text::tc_reader::TcFault;
 use wire_time::Frame;
 
 /// Who observes a run: is told of each answer of the port, one call for one answer, in order. A call has the port's

@@ -7,11 +7,11 @@ ghost use Rattle.script.specs.declared.script_line.Said.TheVariants.{Tc};
 
 use crate::fronts::{behind_clock, behind_frame, behind_tag};
 use abstract_port::Event;
-use line_reader::LineReader;
 use std::alloc::Allocator;
 use std::io::Read;
+use text::line_reader::LineReader;
+use text::words::{front_digit, front_number, front_short};
 use wire_time::{Frame, MAX_MOMENT};
-use words::{front_digit, front_number, front_short};
 
 /// How many octets have to be in hand where a line is read here: more than such a line has.
 const WINDOW: usize = 64;

@@ -1,7 +1,7 @@
 //! The program's main job: a script is answered by the values of options.
 
 ghost use Rattle.std.specs.Prelude.{◌≡◌, ◌≤◌, IfErr};
-ghost use Rattle.octet_writer.specs.Buffered.{writer_contents};
+ghost use Rattle.text.specs.Buffered.{writer_contents};
 ghost use Rattle.script.specs.Alerts.{IsWatchedEnding};
 ghost use Rattle.script.specs.Words.{greatest_moment, octets_of, words_of_values, IsEnding, IsRefusal, settings_given, settings_or_usual, whole_script};
 
@@ -10,9 +10,9 @@ use crate::script_run::run_script;
 use crate::settings::{BadValue, Settings};
 use crate::watch::Watch;
 use job::{Ended, Errors, FaultKind, end_run, end_told};
-use octet_writer::BufWriter;
 use std::alloc::Allocator;
 use std::io::{Read, Write};
+use text::octet_writer::BufWriter;
 use wire_time::MAX_MOMENT;
 
 /// The line rate where none is given, in Mb/s.

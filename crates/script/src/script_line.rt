@@ -6,10 +6,10 @@ ghost use Rattle.script.specs.Words.{Command, Arrive, Clock, TcFault, words_of, 
 use crate::faults::ScriptFault;
 use crate::fronts::{behind_clock, behind_frame};
 use abstract_port::{Command, Event};
-use tc_reader::laws::one_reading;
-use tc_reader::{CommandPlace, TcFault, read_command, read_command_into};
+use port_text::tc_reader::laws::one_reading;
+use port_text::tc_reader::{CommandPlace, TcFault, read_command, read_command_into};
+use text::words::Words;
 use wire_time::{Frame, MAX_MOMENT};
-use words::Words;
 
 /// What a line says. A line that begins with `tc` is read where it is answered: a command takes two kilobytes, and
 /// would make each value of this type as large.

@@ -13,14 +13,14 @@ use crate::script_walk::{walk, walk_on};
 use crate::settings::Settings;
 use crate::summary_lines::put_end;
 use crate::watch::Watch;
-use answer_text::WriteFault;
+use abstract_port::separation::settling;
 use job::{Halt, halted};
-use line_reader::LineReader;
-use octet_writer::PutLine;
-use separation::settling;
+use port_text::answer_text::WriteFault;
 use std::alloc::Allocator;
 use std::io::Read;
 use summary::{Summary, summary_wanted};
+use text::line_reader::LineReader;
+use text::octet_writer::PutLine;
 
 /// Writes how many frames each class still has, and the summary where one is wanted, up to now.
 fn put_end_now<A: Allocator, W: PutLine, H: Watch>(

@@ -3,7 +3,7 @@
 ghost use Rattle.std.specs.Prelude.{ℕ, List, Result, [], ◌≡◌, ◌<◌, ◌≤◌, IfSome, Ok, true, false};
 ghost use Rattle.abstract_port.specs.Answers.{port_after};
 ghost use Rattle.abstract_port.specs.declared.Event.TheVariants as Events;
-ghost use Rattle.line_reader.specs.LineReader.{current_line, current_number};
+ghost use Rattle.text.specs.LineReader.{current_line, current_number};
 ghost use Rattle.script.specs.Alerts.{Watched, alerts_of, refused_alert};
 ghost use Rattle.script.specs.Told.{Tells, told_of, told_to};
 ghost use Rattle.script.specs.Walked.{IsSilent, IsTaken, StepsHeard, Walked, WalkedOn};
@@ -15,13 +15,13 @@ use crate::observer::Observer;
 use crate::plain::{Expected, command_in_hand, front_line};
 use crate::script_line::{Said, read_line, read_tc_into};
 use crate::watch::{Failure, Watch};
+use abstract_port::separation::settling;
 use abstract_port::{Command, Event, Refused};
 use job::Halt;
-use line_reader::LineReader;
-use separation::settling;
+use port_text::tc_reader::{CommandPlace, TcFault};
 use std::alloc::Allocator;
 use std::io::Read;
-use tc_reader::{CommandPlace, TcFault};
+use text::line_reader::LineReader;
 use wire_time::{CLASSES, Frame, MAX_MOMENT};
 
 /// Takes a frame that comes. Who watches is called where it is dropped.

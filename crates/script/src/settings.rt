@@ -7,9 +7,9 @@ ghost use Rattle.script.specs.Words.{IsMtu, IsRoom, octets_of, is_until, mtu_in,
 use job::ValueKind;
 use port::{is_mtu, is_room};
 use std::marker::Model;
-use times::moment;
+use text::times::moment;
+use text::words::number;
 use wire_time::{MAX_MOMENT, Rate};
-use words::number;
 
 /// What a port runs with, each value within its limits: a line rate, an mtu of 68 to 9216 octets, room for 1 to 4096
 /// frames a class, and, where it is given, the moment in picoseconds, at most `MAX_MOMENT`, up to which the port runs

@@ -6,7 +6,7 @@ ghost use Rattle.script.specs.Words.{counters_of, greatest_moment, Writes, end_l
 
 use crate::answers::{RunningPort, put_all_left};
 use crate::watch::Watch;
-use answer_text::WriteFault;
+use port_text::answer_text::WriteFault;
 use std::alloc::Allocator;
 use std::io::Write;
 use summary::Summary;

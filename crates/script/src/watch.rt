@@ -4,7 +4,7 @@ ghost use Rattle.std.specs.Prelude.{◌∷◌, ◌++◌, [], List};
 ghost use Rattle.script.specs.Alerts.{Alert, Failed, Judged, Left, Lost, Passed, Stream};
 
 use abstract_port::{Change, Command, Dropped, Refused};
-use tc_reader::TcFault;
+use port_text::tc_reader::TcFault;
 use wire_time::Frame;
 
 /// What is wrong with a line that begins with `tc`: why it changes nothing, or what of its schedule can not be meant.

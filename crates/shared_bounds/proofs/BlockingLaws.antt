@@ -1,8 +1,8 @@
 -- What blocking is, how it moves, and that it repeats.
 use Rattle.std.proofs.Common.{◌≡◌, ◌<◌, ◌≤◌, ◌⊎◌, ℕ, zero, suc, ◌+◌, ◌-◌, ◌*◌, max, true, false, cond, not, ◌&&◌, ◌||◌, eqb, eq-eqb, ne_eqb, inl, inr, Some, None, refl, sym, ap, ◌∙◌, subst, arith, le_refl}
 use Rattle.std.proofs.lemmas.Bool.{both_ways, cases_Bool, cases_lt, and_parts, and_from}
-use Rattle.gate_list.specs.Gate.{Plan, in_ps, mask_since, opens}
-use Rattle.gate_list.proofs.OpenLaws.{open_at, open_from, open_within}
+use Rattle.gates.specs.Gate.{Plan, in_ps, mask_since, opens}
+use Rattle.gates.proofs.OpenLaws.{open_at, open_from, open_within}
 use Rattle.delay_bounds.proofs.GateLaws.{by_repeats}
 use Rattle.delay_bounds.specs.Walk.{may_by}
 use Rattle.any_traffic.specs.SharedSlots.{IsBlocking}

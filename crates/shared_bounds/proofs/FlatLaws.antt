@@ -1,10 +1,10 @@
 -- While the gates stay as they are.
 use Rattle.std.proofs.Common.{◌≡◌, ◌<◌, ◌≤◌, ℕ, ◌+◌, ◌-◌, Bool, true, false, not, Some, inl, inr, sym, ap, ◌∙◌, subst, arith, le_refl}
 use Rattle.std.proofs.lemmas.Bool.{both_ways, cases_Bool, cases_lt, and_parts}
-use Rattle.gate_list.specs.Gate.{opens}
-use Rattle.gate_list.specs.Open.{open_while}
-use Rattle.gate_list.proofs.OpenLaws.{open_at, open_from}
-use Rattle.list_position.specs.Position.{IsFlat}
+use Rattle.gates.specs.Gate.{opens}
+use Rattle.gates.specs.Open.{open_while}
+use Rattle.gates.proofs.OpenLaws.{open_at, open_from}
+use Rattle.jumping.specs.Position.{IsFlat}
 use Rattle.any_traffic.specs.SharedSlots.{is_opening}
 
 pub flat_on : (mask : ℕ → ℕ) (n u : ℕ) → IsFlat mask n (Some u) → (m : ℕ) → n ≤ m → m < u → mask m ≡ mask n

@@ -3,8 +3,8 @@ use Rattle.std.proofs.Common.{◌≡◌, ◌<◌, ◌≤◌, ℕ, zero, suc, ◌
 use Rattle.std.proofs.Math.Nat.{mul-le-mul_left}
 use Rattle.std.proofs.lemmas.Bool.{cases_lt}
 use Rattle.std.specs.Prelude.{IfOk}
-use Rattle.gate_list.specs.Gate.{mask_since}
-use Rattle.gate_list.proofs.OpenLaws.{open_within}
+use Rattle.gates.specs.Gate.{mask_since}
+use Rattle.gates.proofs.OpenLaws.{open_within}
 use Rattle.any_traffic.specs.SharedSlots.{IsNextShared}
 use Rattle.shared_bounds.specs.Place.{IsPlace, IsSlotOf, above_of, blocking_of, may_of, own_of, own_slots}
 use Rattle.shared_bounds.specs.Slots.{IsEnough, IsFirstFor, IsNoNext, IsNoneFor, IsOn, IsSought, NoneFor}

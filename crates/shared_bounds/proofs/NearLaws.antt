@@ -1,9 +1,9 @@
 -- Moments that need not be looked at.
 use Rattle.std.proofs.Common.{◌≡◌, ◌<◌, ◌≤◌, ◌⊎◌, ℕ, zero, suc, ◌+◌, ◌-◌, ◌*◌, Bool, true, false, not, ◌&&◌, inl, inr, sym, ap, ◌∙◌, subst, arith, add-mul}
 use Rattle.std.proofs.lemmas.Bool.{both_ways, cases_Bool, cases_lt, and_parts}
-use Rattle.gate_list.specs.Gate.{opens}
-use Rattle.gate_list.specs.Open.{open_while}
-use Rattle.gate_list.proofs.OpenLaws.{open_at, open_from}
+use Rattle.gates.specs.Gate.{opens}
+use Rattle.gates.specs.Open.{open_while}
+use Rattle.gates.proofs.OpenLaws.{open_at, open_from}
 use Rattle.any_traffic.specs.SharedSlots.{IsFirstShared, IsNextShared, IsNextWindow, IsSharedSlot, is_opening}
 use Rattle.shared_bounds.specs.Slots.{IsNextOpening}
 use Rattle.shared_bounds.proofs.SlotLaws.{next_after}

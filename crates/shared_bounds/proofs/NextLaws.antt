@@ -1,8 +1,8 @@
 -- The next moment to look at.
 use Rattle.std.proofs.Common.{◌≡◌, ◌<◌, ◌≤◌, ℕ, ◌+◌, ◌-◌, ◌*◌, true, false, inl, inr, Some, None, sym, ap, subst, arith}
 use Rattle.std.proofs.lemmas.Bool.{cases_lt}
-use Rattle.gate_list.specs.Gate.{mask_since}
-use Rattle.gate_list.proofs.OpenLaws.{open_at, open_from, open_within}
+use Rattle.gates.specs.Gate.{mask_since}
+use Rattle.gates.proofs.OpenLaws.{open_at, open_from, open_within}
 use Rattle.delay_bounds.specs.Walk.{may_by}
 use Rattle.shared_bounds.specs.Blocking.{open_for, was_open}
 use Rattle.shared_bounds.specs.Near.{AreNear, IsLastIn, IsNear}

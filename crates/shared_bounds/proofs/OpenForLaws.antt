@@ -1,8 +1,8 @@
 -- The lesser of a limit and the time for which a gate stays open.
 use Rattle.std.proofs.Common.{◌≡◌, ◌≤◌, ◌⊎◌, ℕ, zero, suc, ◌+◌, ◌-◌, Bool, true, false, cond, inl, inr, refl, sym, ap, subst, arith, le_refl}
 use Rattle.std.proofs.lemmas.Bool.{both_ways, cases_Bool, cases_lt}
-use Rattle.gate_list.specs.Open.{open_while}
-use Rattle.gate_list.proofs.OpenLaws.{open_within}
+use Rattle.gates.specs.Open.{open_while}
+use Rattle.gates.proofs.OpenLaws.{open_within}
 use Rattle.shared_bounds.specs.Blocking.{open_for}
 
 module _ (mask : ℕ → ℕ) (class : ℕ) where

@@ -1,8 +1,8 @@
 -- When the gate of the class opens.
 use Rattle.std.proofs.Common.{◌≡◌, ◌<◌, ◌≤◌, ℕ, zero, suc, ◌+◌, ◌-◌, ◌*◌, true, false, not, ◌&&◌, Option, Some, None, inl, inr, sym, ap, ◌∙◌, arith}
 use Rattle.std.proofs.lemmas.Bool.{both_ways, cases_Bool, cases_lt, and_parts}
-use Rattle.gate_list.specs.Gate.{in_ps, mask_since}
-use Rattle.gate_list.proofs.OpenLaws.{open_within}
+use Rattle.gates.specs.Gate.{in_ps, mask_since}
+use Rattle.gates.proofs.OpenLaws.{open_within}
 use Rattle.delay_bounds.proofs.GateLaws.{by_repeats}
 use Rattle.std.specs.Prelude.{MatchOption}
 use Rattle.delay_bounds.specs.Bounds.{first_fit}

@@ -4,8 +4,8 @@ use Rattle.std.proofs.Math.Nat.{div-add-mod}
 use Rattle.std.proofs.lemmas.Bool.{cases_lt}
 use Rattle.std.proofs.lemmas.Option.{same_Some, slice_get-get_or, slice_get_within}
 use Rattle.any_traffic.proofs.ListLaws.{get_last, get_more, none_here}
-use Rattle.gate_list.specs.Gate.{Plan, in_ps, mask_since, opens}
-use Rattle.gate_list.proofs.OpenLaws.{open_at, open_from}
+use Rattle.gates.specs.Gate.{Plan, in_ps, mask_since, opens}
+use Rattle.gates.proofs.OpenLaws.{open_at, open_from}
 use Rattle.delay_bounds.proofs.GateLaws.{by_repeats}
 use Rattle.delay_bounds.specs.Walk.{may_by}
 use Rattle.shared_bounds.specs.Sharing.{AreHigher, Share}

@@ -2,8 +2,8 @@
 use Rattle.std.proofs.Common.{◌≡◌, ◌<◌, ◌≤◌, ℕ, ◌+◌, ◌-◌, ◌*◌, ◌/◌, ◌^◌, min, true, false, Some, None, inl, inr, sym, subst, arith, le_refl}
 use Rattle.std.proofs.Math.Nat.{div-lt_iff_lt-mul, div-mul-le_self, le-div_iff_mul-le, mul-le-mul_right}
 use Rattle.std.proofs.lemmas.Bool.{cases_Bool}
-use Rattle.gate_list.specs.Gate.{mask_since}
-use Rattle.gate_list.proofs.OpenLaws.{open_within}
+use Rattle.gates.specs.Gate.{mask_since}
+use Rattle.gates.proofs.OpenLaws.{open_within}
 use Rattle.shared_bounds.specs.Blocking.{open_for}
 use Rattle.shared_bounds.specs.Place.{IsPlace, may_of, own_of}
 use Rattle.shared_bounds.specs.declared.place.SharedClass.{SharedClass}

@@ -2,7 +2,7 @@
 use Rattle.std.proofs.Common.{◌≡◌, ◌<◌, ◌≤◌, ◌⊎◌, ℕ, ◌+◌, ◌-◌, max, min, List, ◌∷◌, get_or, length, Option, Some, None, Result, Ok, Err, All, inl, inr, sym, ap, ◌∙◌, subst, arith}
 use Rattle.std.proofs.lemmas.Bool.{cases_lt}
 use Rattle.std.proofs.lemmas.Option.{same_Some, slice_get-get_or, slice_get_within}
-use Rattle.gate_list.specs.Gate.{in_ps}
+use Rattle.gates.specs.Gate.{in_ps}
 use Rattle.burst_bounds.specs.Busy.{HasFrames}
 use Rattle.burst_bounds.specs.declared.Bounds.{Bounds}
 use Rattle.std.specs.Prelude.{IfErr, IfOk}

@@ -3,7 +3,7 @@
 -- A frame starts only where its gate stays open until it ends (IEEE Std 802.1Q-2018, 8.6.8.4). So what it still needs at a moment u is no
 -- longer than the gate stays open from u, and shorter than the longest frame of its class.
 use Rattle.std.specs.Prelude.{ℕ, zero, suc, ◌-◌, ◌==◌, ◌&&◌, ◌||◌, max, not, Bool, if◌then◌else◌}
-use Rattle.gate_list.specs.Gate.{Plan}
+use Rattle.gates.specs.Gate.{Plan}
 use Rattle.delay_bounds.specs.Walk.{may_by}
 
 -- the lesser of a limit and the time for which a gate stays open from u

@@ -1,7 +1,7 @@
 -- The least bounds of a class that shares its windows.
 use Rattle.std.specs.Prelude.{◌≡◌, ◌<◌, ◌≤◌, ◌⊎◌, ◌+◌, ℕ, List, All, length}
-use Rattle.gate_list.specs.Gate.{Plan, in_ps}
-use Rattle.list_config.specs.History.{Accepted}
+use Rattle.gates.specs.Gate.{Plan, in_ps}
+use Rattle.gates.specs.History.{Accepted}
 use Rattle.abstract_port.specs.declared.Event.{Event}
 use Rattle.any_traffic.specs.SharedBounds.{AreSharedBounds, IsSharedBusyPeriod}
 use Rattle.any_traffic.specs.SharedRuns.{IsSharedInTime, IsSharedRun}

@@ -1,6 +1,6 @@
 -- Moments that need not be looked at, since the slots from an earlier one are no sooner.
 use Rattle.std.specs.Prelude.{◌≡◌, ◌<◌, ◌≤◌, ◌⊎◌, ℕ, ◌+◌, ◌-◌, ◌*◌, true, false, Some, None}
-use Rattle.gate_list.specs.Gate.{mask_since}
+use Rattle.gates.specs.Gate.{mask_since}
 use Rattle.delay_bounds.specs.Walk.{may_by}
 use Rattle.shared_bounds.specs.Blocking.{was_open}
 use Rattle.shared_bounds.specs.Place.{IsSlotOf, may_of, own_of}

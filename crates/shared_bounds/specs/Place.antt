@@ -1,7 +1,7 @@
 -- A class under a schedule, beside the others.
 use Rattle.std.specs.Prelude.{◌≡◌, ◌<◌, ◌+◌, ◌^◌, ℕ, Bool, None, All, length}
-use Rattle.gate_list.specs.Gate.{IsSchedule}
-use Rattle.list_position.specs.Position.{IsPlaced}
+use Rattle.gates.specs.Gate.{IsSchedule}
+use Rattle.jumping.specs.Position.{IsPlaced}
 use Rattle.delay_bounds.specs.Walk.{may_by}
 use Rattle.any_traffic.specs.SharedSlots.{IsSharedSlot, is_opening, slots_of}
 use Rattle.any_traffic.specs.SharedBounds.{slots_above}

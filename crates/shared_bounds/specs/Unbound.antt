@@ -1,6 +1,6 @@
 -- Why a class that shares its windows has no bounds.
 use Rattle.std.specs.Prelude.{◌≡◌, ◌<◌, ◌≤◌, ◌⊎◌, ◌^◌, ℕ, ◌+◌, ◌-◌, ◌*◌, false, List}
-use Rattle.gate_list.specs.Gate.{Plan}
+use Rattle.gates.specs.Gate.{Plan}
 use Rattle.delay_bounds.specs.Walk.{may_by}
 use Rattle.any_traffic.specs.SharedBounds.{slots_above}
 use Rattle.any_traffic.specs.SharedSlots.{IsSharedSlot, is_opening, slots_of}

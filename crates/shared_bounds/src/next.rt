@@ -2,7 +2,7 @@
 //! may have the wire than before, or behind where the gate opens.
 
 ghost use Rattle.std.specs.Prelude.{◌≡◌, ◌<◌, ◌≤◌, ◌+◌, ◌^◌, true, IfErr, IfOk};
-ghost use Rattle.gate_list.specs.Gate.{in_ps};
+ghost use Rattle.gates.specs.Gate.{in_ps};
 ghost use Rattle.shared_bounds.specs.Near.{AreNear, IsLastIn, IsReach};
 ghost use Rattle.shared_bounds.specs.Place.{IsPlace, may_of, own_of, takes_of};
 ghost use Rattle.shared_bounds.specs.Slots.{IsBlocked};

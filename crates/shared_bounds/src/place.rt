@@ -3,8 +3,8 @@
 
 ghost use Rattle.std.specs.Prelude.{◌≡◌, ℕ, ◌<◌, ◌≤◌, ◌+◌, ◌-◌, ◌^◌, Some, None, false, true, IfSome, MatchOption, length};
 ghost use Rattle.wire_time.specs.Moment.{greatest_moment};
-ghost use Rattle.gate_list.specs.Gate.{in_ps};
-ghost use Rattle.list_position.specs.Position.{IsPlaced};
+ghost use Rattle.gates.specs.Gate.{in_ps};
+ghost use Rattle.jumping.specs.Position.{IsPlaced};
 ghost use Rattle.delay_bounds.specs.Walk.{may_by};
 ghost use Rattle.shared_bounds.specs.Blocking.{blocked_by, open_for, was_open};
 ghost use Rattle.shared_bounds.specs.Near.{StaysFrom};
@@ -15,8 +15,8 @@ ghost use Rattle.shared_bounds.specs.Traffic.{needs};
 use crate::ClassTraffic;
 use burst_bounds::slots::is_slot;
 use delay_bounds::fit::fit;
-use gate_list::{Schedule, Visits};
-use list_position::{Need, Position};
+use gates::gate_list::{Schedule, Visits};
+use jumping::list_position::{Need, Position};
 use wire_time::CLASSES;
 
 /// A class under a schedule, beside the others.

@@ -2,15 +2,15 @@
 
 ghost use Rattle.std.specs.Prelude.{◌≡◌, ◌<◌, ◌≤◌, ◌↔◌, None, true, false, All, IfOk, IsTrue, length};
 ghost use Rattle.wire_time.specs.Moment.{greatest_moment};
-ghost use Rattle.gate_list.specs.Gate.{IsSchedule};
+ghost use Rattle.gates.specs.Gate.{IsSchedule};
 ghost use Rattle.delay_bounds.specs.Walk.{may_by};
-ghost use Rattle.list_position.specs.Position.{IsPlaced};
+ghost use Rattle.jumping.specs.Position.{IsPlaced};
 ghost use Rattle.shared_bounds.specs.Sharing.{AreHigher, Share};
 ghost use Rattle.shared_bounds.specs.Traffic.{needs};
 
 use crate::ClassTraffic;
-use gate_list::{Schedule, Visits};
-use list_position::{Need, Position};
+use gates::gate_list::{Schedule, Visits};
+use jumping::list_position::{Need, Position};
 use std::alloc::{AllocError, Allocator};
 use wire_time::CLASSES;
 

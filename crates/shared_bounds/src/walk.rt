@@ -16,8 +16,8 @@ use crate::sharing::{higher_classes, need_in};
 use crate::{ClassTraffic, Unbound};
 use burst_bounds::arrivals::arrivals;
 use burst_bounds::{Bounds, Talker};
-use gate_list::{Schedule, Visits};
-use list_position::Position;
+use gates::gate_list::{Schedule, Visits};
+use jumping::list_position::Position;
 use std::alloc::Allocator;
 use wire_time::CLASSES;
 

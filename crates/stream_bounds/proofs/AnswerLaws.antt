@@ -3,7 +3,7 @@ use Rattle.std.proofs.Common.{◌≡◌, ℕ, List, map, Option, None, Result, O
 use Rattle.std.specs.Prelude.{◌≢◌, IfErr, IfOk, MatchResult}
 use Rattle.job.specs.declared.fault.Fault.{Fault}
 use Rattle.job.specs.declared.fault.Fault.TheVariants as Faults
-use Rattle.octet_writer.specs.Writes.{Writes}
+use Rattle.text.specs.Writes.{Writes}
 use Rattle.stream_bounds.specs.BoundLines.{change_answered, change_lines}
 use Rattle.stream_bounds.specs.TableRead.{TellsChange}
 use Rattle.stream_bounds.specs.declared.faults.Answered.{Answered}
@@ -18,7 +18,7 @@ use Rattle.burst_bounds.specs.declared.Talker.{Talker}
 use Rattle.burst_bounds.specs.declared.Unbound.{Unbound}
 use Rattle.burst_bounds.specs.declared.Unbound.TheVariants.{Overloaded, Stuck, Long, Memory}
 use Rattle.delay_bounds.specs.Walk.{may_by}
-use Rattle.gate_list.specs.Gate.{Plan}
+use Rattle.gates.specs.Gate.{Plan}
 use Rattle.window_bounds.specs.Flows.{flows_of as flows_with_windows, longest_need as longest_of}
 use Rattle.window_bounds.specs.Least.{AreLeast as AreLeastWindows}
 use Rattle.window_bounds.specs.Unbound.{IsUnbound as IsUnboundWindows}

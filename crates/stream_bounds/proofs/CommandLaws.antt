@@ -2,12 +2,12 @@
 use Rattle.std.proofs.Common.{◌≡◌, ℕ, Bool, List, [], ◌∷◌, ◌++◌, Option, Some, None, Result, Ok, Err, true, false, refl, sym, ap, ◌∙◌, subst, append_assoc, inl, inr}
 use Rattle.std.specs.Prelude.{IfSome, option_map}
 use Rattle.std.specs.Io.KnownBytes.{Appends, Keeps}
-use Rattle.octet_writer.proofs.Fronts.{Appends-nil, sent_all, sent_none}
-use Rattle.words.specs.Words.{words_of}
-use Rattle.line_reader.specs.Script.{Script, End, Broken, Line, script_of}
-use Rattle.line_reader.specs.LineReader.{Advances}
-use Rattle.line_reader.specs.declared.lines.LineFault.{LineFault}
-use Rattle.line_reader.specs.declared.lines.LineFault.TheVariants as LineFaults
+use Rattle.text.proofs.Fronts.{Appends-nil, sent_all, sent_none}
+use Rattle.text.specs.Words.{words_of}
+use Rattle.text.specs.Script.{Script, End, Broken, Line, script_of}
+use Rattle.text.specs.LineReader.{Advances}
+use Rattle.text.specs.declared.line_reader.lines.LineFault.{LineFault}
+use Rattle.text.specs.declared.line_reader.lines.LineFault.TheVariants as LineFaults
 use Rattle.abstract_port.specs.declared.Command.{Command}
 use Rattle.job.specs.Outcome.{Outcome, Runs, RunsOut}
 use Rattle.job.specs.RunEnd.{IsOrFails}
@@ -28,7 +28,7 @@ use Rattle.stream_bounds.specs.declared.faults.BoundsInput.{BoundsInput}
 use Rattle.stream_bounds.specs.declared.faults.BoundsInput.TheVariants as Inputs
 use Rattle.stream_bounds.specs.declared.faults.Finding.{Finding}
 use Rattle.stream_bounds.specs.declared.settings.BoundsSettings.{BoundsSettings}
-use Rattle.tc_reader.specs.declared.fault.TcFault.{TcFault}
+use Rattle.port_text.specs.declared.tc_reader.fault.TcFault.{TcFault}
 use Rattle.traffic.specs.Table.{Table, table_by}
 use Rattle.traffic.specs.TableRead.{ReadsTable}
 use Rattle.traffic.specs.declared.frame_count.FrameCount.{FrameCount}

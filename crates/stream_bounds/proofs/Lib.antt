@@ -1,8 +1,8 @@
+mod AnswerLaws
 mod CommandLaws
+mod ExtraLaws
 mod LineLaws
 mod PickLaws
 mod RefusalLaws
-mod AnswerLaws
 mod SharedLaws
 mod SilentLaws
-mod ExtraLaws

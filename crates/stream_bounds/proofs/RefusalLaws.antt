@@ -5,9 +5,9 @@ use Rattle.abstract_port.specs.AbstractPort.{class_for, default_class, first_of,
 use Rattle.abstract_port.specs.declared.Change.{Change}
 use Rattle.abstract_port.specs.declared.Refused.{Refused}
 use Rattle.abstract_port.specs.declared.Refused.TheVariants.{Schedule}
-use Rattle.class_map.specs.declared.ClassMap.{ClassMap}
-use Rattle.gate_list.specs.Gate.{Plan, ok_unless, plan_fault}
-use Rattle.gate_list.specs.declared.PlanFault.{PlanFault}
+use Rattle.abstract_port.specs.declared.class_map.ClassMap.{ClassMap}
+use Rattle.gates.specs.Gate.{Plan, ok_unless, plan_fault}
+use Rattle.gates.specs.declared.gate_list.PlanFault.{PlanFault}
 use Rattle.schedule_check.specs.Refusals.{early_refusal, map_after}
 use Rattle.stream_bounds.specs.Classes.{port_before, port_of, refusal_of}
 use Rattle.stream_bounds.specs.declared.settings.BoundsSettings.{BoundsSettings}

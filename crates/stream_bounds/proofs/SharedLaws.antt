@@ -9,7 +9,7 @@ use Rattle.burst_bounds.specs.Talkers.{IsTalker, longest_need}
 use Rattle.burst_bounds.specs.declared.Bounds.{Bounds}
 use Rattle.burst_bounds.specs.declared.Talker.{Talker}
 use Rattle.burst_bounds.proofs.TalkerLaws.{curve_some}
-use Rattle.gate_list.specs.Gate.{Plan}
+use Rattle.gates.specs.Gate.{Plan}
 use Rattle.shared_bounds.specs.Least.{AreLeastOf, IsUnbound}
 use Rattle.shared_bounds.specs.Traffic.{IsTraffic, arrivals_of, needs}
 use Rattle.shared_bounds.specs.declared.ClassTraffic.{ClassTraffic}

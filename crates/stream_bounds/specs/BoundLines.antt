@@ -1,13 +1,13 @@
 -- The lines of a schedule's bounds. Times are in picoseconds.
 use Rattle.std.specs.Prelude.{ℕ, ◌≡◌, ◌+◌, zero, suc, ◌||◌, Bool, true, false, List, [], ◌∷◌, ◌++◌, slice_index_or, Option, Some, None, Result, Ok, Err, decimal, codes, if◌then◌else◌}
 use Rattle.std.specs.List.{concat, list_any}
-use Rattle.answer_text.specs.Names.{dropped_name}
+use Rattle.port_text.specs.AnswerNames.{dropped_name}
 use Rattle.abstract_port.specs.AbstractPort.{plan_asked}
 use Rattle.abstract_port.specs.declared.Change.{Change}
 use Rattle.abstract_port.specs.declared.Command.{Command}
 use Rattle.abstract_port.specs.declared.Command.TheVariants.{Replace, Delete}
 use Rattle.abstract_port.specs.declared.Refused.{Refused}
-use Rattle.answer_text.specs.Lines.{refused_line, tc_fault_line}
+use Rattle.port_text.specs.AnswerLines.{refused_line, tc_fault_line}
 use Rattle.schedule_check.specs.Apart.{apart_line, class_count, classes_apart}
 use Rattle.schedule_check.specs.Refusals.{map_after}
 use Rattle.delay_bounds.specs.declared.Bound.{Bound}
@@ -28,7 +28,7 @@ use Rattle.stream_bounds.specs.declared.verdicts.Place.{Place}
 use Rattle.stream_bounds.specs.declared.verdicts.Verdict.{Verdict}
 use Rattle.stream_bounds.specs.declared.verdicts.Verdict.TheVariants as Verdicts
 use Rattle.script.specs.declared.watch.Shares.{Shares}
-use Rattle.tc_reader.specs.declared.fault.TcFault.{TcFault}
+use Rattle.port_text.specs.declared.tc_reader.fault.TcFault.{TcFault}
 use Rattle.traffic.specs.declared.table.Stream.{Stream}
 
 -- 1. Classes

@@ -1,7 +1,7 @@
 -- What a run of the program on a table and schedules leaves: its exit status, what the writer got, and the text of a fault.
 use Rattle.std.specs.Prelude.{ℕ, ◌-◌, ◌==◌, ◌&&◌, not, nat_le, Bool, true, false, List, [], ◌∷◌, slice_set, slice_index_or, Option, Some, None, Result, Ok, Err, IfSome, unwrap_or, codes, if◌then◌else◌}
 use Rattle.abstract_port.specs.declared.Command.{Command}
-use Rattle.class_map.specs.declared.ClassMap.{ClassMap}
+use Rattle.abstract_port.specs.declared.class_map.ClassMap.{ClassMap}
 use Rattle.job.specs.RunEnd.{IsLetOut, IsRunEnding, IsUnanswered}
 use Rattle.job.specs.Outcome.{RunsOut}
 use Rattle.job.specs.declared.report.Ended.{Ended}
@@ -22,10 +22,10 @@ use Rattle.stream_bounds.specs.declared.settings.BoundsSettings.{BoundsSettings}
 use Rattle.stream_bounds.specs.declared.settings.BoundsValue.{BoundsValue}
 use Rattle.stream_bounds.specs.declared.settings.BoundsValue.TheVariants as Values
 use Rattle.stream_bounds.specs.declared.settings.TheConstants.{MAX_FRAMES}
-use Rattle.tc_reader.specs.Reader.{IsReader}
-use Rattle.tc_reader.specs.declared.fault.TcFault.{TcFault}
+use Rattle.port_text.specs.Reader.{IsReader}
+use Rattle.port_text.specs.declared.tc_reader.fault.TcFault.{TcFault}
 use Rattle.wire_time.specs.Moment.{greatest_moment}
-use Rattle.words.specs.Numbers.{number_in}
+use Rattle.text.specs.Numbers.{number_in}
 
 -- a number of frames, if it is within its limits
 abbrev pub frames_where : Option ℕ → Option ℕ

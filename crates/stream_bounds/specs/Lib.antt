@@ -1,10 +1,10 @@
-pub mod Classes
-pub mod Standing
-pub mod Shared
-pub mod Verdicts
 pub mod Answers
 pub mod BoundLines
+pub mod BoundsEnd
+pub mod Classes
 pub mod Faults
 pub mod Outcome
+pub mod Shared
+pub mod Standing
 pub mod TableRead
-pub mod BoundsEnd
+pub mod Verdicts

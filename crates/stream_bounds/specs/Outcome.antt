@@ -2,8 +2,8 @@
 --
 -- The answers about the classes of a schedule are right where they keep to `AreClassAnswers`. What is written is then one text: `outcome_in`.
 use Rattle.std.specs.Prelude.{ℕ, ◌≡◌, ◌==◌, List, [], ◌∷◌, ◌++◌, Bool, true, false, Option, Some, None, Result, Ok, Err, if◌then◌else◌}
-use Rattle.words.specs.Words.{words_of}
-use Rattle.line_reader.specs.Script.{Script, End, Broken, Line, script_of}
+use Rattle.text.specs.Words.{words_of}
+use Rattle.text.specs.Script.{Script, End, Broken, Line, script_of}
 use Rattle.abstract_port.specs.declared.Command.{Command}
 use Rattle.job.specs.Outcome.{Outcome}
 use Rattle.schedule_check.specs.Checked.{is_command}
@@ -18,7 +18,7 @@ use Rattle.stream_bounds.specs.declared.faults.Finding.TheVariants as Findings
 use Rattle.stream_bounds.specs.declared.faults.Answered.{Answered}
 use Rattle.stream_bounds.specs.declared.settings.BoundsSettings.{BoundsSettings}
 use Rattle.stream_bounds.specs.Verdicts.{ClassAnswer}
-use Rattle.tc_reader.specs.declared.fault.TcFault.{TcFault}
+use Rattle.port_text.specs.declared.tc_reader.fault.TcFault.{TcFault}
 use Rattle.traffic.specs.Table.{Table, table_by}
 use Rattle.traffic.specs.declared.table.Stream.{Stream}
 

@@ -9,7 +9,7 @@ use Rattle.abstract_port.specs.declared.Change.{Change}
 use Rattle.burst_bounds.specs.Talkers.{longest_need}
 use Rattle.burst_bounds.specs.declared.Bounds.{Bounds}
 use Rattle.burst_bounds.specs.declared.Talker.{Talker}
-use Rattle.gate_list.specs.Gate.{Plan}
+use Rattle.gates.specs.Gate.{Plan}
 use Rattle.shared_bounds.specs.Least.{AreLeastOf, IsUnbound}
 use Rattle.shared_bounds.specs.Sharing.{Share}
 use Rattle.shared_bounds.specs.declared.ClassTraffic.{ClassTraffic}

@@ -1,18 +1,18 @@
 -- What answering about a command leaves.
 use Rattle.std.specs.Prelude.{◌≡◌, ◌⊎◌, ℕ, Bool, true, false, List, Option, Some, None, Result, Ok, Err}
 use Rattle.std.specs.Io.KnownBytes.{Appends, Keeps}
-use Rattle.octet_writer.specs.Writes.{AppendsFront, FallsShort}
+use Rattle.text.specs.Writes.{AppendsFront, FallsShort}
 use Rattle.abstract_port.specs.declared.Change.{Change}
 use Rattle.abstract_port.specs.declared.Command.{Command}
 use Rattle.abstract_port.specs.declared.Refused.{Refused}
 use Rattle.stream_bounds.specs.BoundLines.{AreChangeAnswers, AreCommandAnswers, change_answered, change_lines, command_answered, command_lines}
 use Rattle.job.specs.Outcome.{Runs}
-use Rattle.line_reader.specs.Script.{Script}
+use Rattle.text.specs.Script.{Script}
 use Rattle.stream_bounds.specs.Outcome.{AreAnswers, begun_with, bounds_in}
 use Rattle.stream_bounds.specs.Verdicts.{ClassAnswer}
 use Rattle.stream_bounds.specs.declared.faults.Answered.{Answered}
 use Rattle.stream_bounds.specs.declared.settings.BoundsSettings.{BoundsSettings}
-use Rattle.tc_reader.specs.declared.fault.TcFault.{TcFault}
+use Rattle.port_text.specs.declared.tc_reader.fault.TcFault.{TcFault}
 use Rattle.traffic.specs.declared.table.Stream.{Stream}
 use Rattle.delay_bounds.specs.Bounded.{Answer}
 use Rattle.delay_bounds.specs.declared.Bounded.{Bounded}

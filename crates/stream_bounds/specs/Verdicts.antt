@@ -17,7 +17,7 @@
 -- of frames, that bound the late run, in which each frame comes as late as it may. What they are worth is the law `any_traffic::periodic_windows`.
 use Rattle.std.specs.List.{list_any}
 use Rattle.std.specs.Prelude.{ℕ, ◌+◌, ◌-◌, ◌^◌, ◌==◌, ◌≡◌, length, map, min, nat_le, is_some, ◌&&◌, Bool, true, false, List, [], ◌∷◌, drop, slice_get, slice_set, slice_index_or, Option, Some, None, unwrap_or, Result, Ok, Err, if◌then◌else◌}
-use Rattle.gate_list.specs.Gate.{keeps_apart}
+use Rattle.gates.specs.Gate.{keeps_apart}
 use Rattle.abstract_port.specs.AbstractPort.{plan_asked}
 use Rattle.abstract_port.specs.declared.Change.{Change}
 use Rattle.abstract_port.specs.declared.Dropped.{Dropped}
@@ -42,7 +42,7 @@ use Rattle.window_bounds.specs.declared.Bounded.{Bounded}
 use Rattle.window_bounds.specs.declared.JitteredFlow.{JitteredFlow}
 use Rattle.window_bounds.specs.declared.Unbound.{Unbound as WindowUnbound}
 use Rattle.window_bounds.specs.declared.Unbound.TheVariants as WindowFaults
-use Rattle.gate_list.specs.Gate.{Plan}
+use Rattle.gates.specs.Gate.{Plan}
 use Rattle.wire_time.specs.Wire.{occupancy_of}
 use Rattle.stream_bounds.specs.Classes.{are_any, are_equal, class_of, dropped_of, flow_of, has_any, has_inexact, jittered_of, most_sdu, talker_of}
 use Rattle.stream_bounds.specs.Shared.{AreBeside, AreOpen, IsHighest, IsShared}

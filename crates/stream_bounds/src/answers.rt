@@ -19,7 +19,7 @@ use crate::standing::{Standing, standing_of};
 use crate::verdicts::{Delay, Verdict, delay_by};
 use abstract_port::{Change, Dropped};
 use delay_bounds::Bound;
-use gate_list::Schedule;
+use gates::gate_list::Schedule;
 use std::alloc::Global;
 use std::marker::Model;
 use traffic::Stream;

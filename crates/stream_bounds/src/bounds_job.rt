@@ -1,23 +1,23 @@
 //! The program's job: the delays of streams, for ever.
 
 ghost use Rattle.std.specs.Prelude.{◌≡◌, ◌<◌, IfSome, None, Some, false};
-ghost use Rattle.octet_writer.specs.Buffered.{writer_contents};
+ghost use Rattle.text.specs.Buffered.{writer_contents};
 ghost use Rattle.script.specs.Given.{octets_of, words_of_values};
 ghost use Rattle.stream_bounds.specs.BoundsEnd.{IsBoundsEnding, IsBoundsRefusal, bounds_given, class_of_digit, frames_where, next_named, no_classes, read_classes, where_silent, with_named};
 ghost use Rattle.stream_bounds.specs.declared.settings.TheConstants.{MAX_FRAMES};
 ghost use Rattle.wire_time.specs.declared.TheConstants.{CLASSES};
-ghost use Rattle.words.specs.Numbers.{number_in};
+ghost use Rattle.text.specs.Numbers.{number_in};
 
 use crate::settings::{BoundsSettings, BoundsValue, MAX_FRAMES, say_bounds_value};
 use crate::table_bounds::bounds;
 use job::{Ended, Errors, FaultKind, end_run, end_told};
-use octet_writer::BufWriter;
 use schedule_check::given_map;
 use script::{BadValue, Values, Watch, settings_given};
 use std::alloc::{Allocator, Global};
 use std::io::{Read, Write};
+use text::octet_writer::BufWriter;
+use text::words::number;
 use wire_time::{CLASSES, MAX_MOMENT};
-use words::number;
 
 /// How many frames of a class are looked at, where no number is given.
 const FRAMES: &str = "1000000";

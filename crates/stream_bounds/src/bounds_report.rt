@@ -2,7 +2,7 @@
 
 ghost use Rattle.std.specs.Prelude.{◌≡◌, All, Err, IfOk, List, MatchResult, None, Ok, Option, Result, Some, true, false, ℕ};
 ghost use Rattle.job.specs.declared.fault.Fault.TheVariants as Faults;
-ghost use Rattle.octet_writer.specs.Writes.{Writes};
+ghost use Rattle.text.specs.Writes.{Writes};
 ghost use Rattle.stream_bounds.specs.Answers.{AreClassAnswers};
 ghost use Rattle.stream_bounds.specs.declared.faults.Answered.{Answered};
 ghost use Rattle.stream_bounds.specs.declared.settings.BoundsSettings.{BoundsSettings};
@@ -14,9 +14,9 @@ ghost use Rattle.abstract_port.specs.declared.Command.{Command};
 ghost use Rattle.stream_bounds.specs.BoundLines.{accepted_finding, change_answered, change_lines, command_answered, command_lines};
 ghost use Rattle.stream_bounds.specs.Classes.{IsPeriodic, port_before, refusal_of};
 ghost use Rattle.stream_bounds.specs.TableRead.{Tells, TellsChange, TellsLine};
-ghost use Rattle.tc_reader.specs.Reader.{IsReader};
-ghost use Rattle.tc_reader.specs.declared.fault.TcFault.{TcFault};
-ghost use Rattle.words.specs.Words.{words_of};
+ghost use Rattle.port_text.specs.Reader.{IsReader};
+ghost use Rattle.port_text.specs.declared.tc_reader.fault.TcFault.{TcFault};
+ghost use Rattle.text.specs.Words.{words_of};
 
 use crate::answers::Answers;
 use crate::busy::tell_busy;
@@ -27,13 +27,13 @@ use crate::premise_lines::put_premises;
 use crate::settings::BoundsSettings;
 use crate::stream_lines::{first_of, put_streams};
 use abstract_port::{Change, Command, Refused};
-use answer_text::{WriteFault, put_refused, put_tc_fault};
-use gate_list::Schedule;
+use gates::gate_list::Schedule;
+use port_text::answer_text::{WriteFault, put_refused, put_tc_fault};
+use port_text::tc_reader::TcFault;
 use schedule_check::{early_refusal, put_apart};
 use script::{Watch, read_tc};
 use std::alloc::Global;
 use std::io::Write;
-use tc_reader::TcFault;
 use traffic::Stream;
 
 /// What a call that writes answers, as what a call answers that may fail otherwise too.

@@ -25,7 +25,7 @@ use crate::verdicts::{Verdict, verdict_of};
 use abstract_port::Change;
 use burst_bounds::{Bounds as BurstBounds, Unbound as BurstUnbound, burst_bounds};
 use delay_bounds::{Bound, Bounded, Unbound, bound_flows};
-use gate_list::Schedule;
+use gates::gate_list::Schedule;
 use std::alloc::Global;
 use std::marker::Model;
 use traffic::Stream;

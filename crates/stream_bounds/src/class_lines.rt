@@ -1,7 +1,7 @@
 //! The lines of classes.
 
 ghost use Rattle.std.specs.Prelude.{◌≡◌, Some};
-ghost use Rattle.octet_writer.specs.Writes.{Writes};
+ghost use Rattle.text.specs.Writes.{Writes};
 ghost use Rattle.stream_bounds.specs.BoundLines.{behind_line, bounded_line, class_finding, class_finding_in, class_head, class_line, class_lines, flag_text, flag_texts, flagged_line, full_end, full_line, open_line, place_text, stuck_line, within_line, word_line};
 ghost use Rattle.wire_time.specs.declared.TheConstants.{CLASSES};
 
@@ -9,7 +9,7 @@ use crate::answers::Answers;
 use crate::faults::Finding;
 use crate::stream_lines::first_of;
 use crate::verdicts::{Place, Verdict};
-use answer_text::{Part, WriteFault, put, put_parts};
+use port_text::answer_text::{Part, WriteFault, put, put_parts};
 use std::io::Write;
 use wire_time::CLASSES;
 

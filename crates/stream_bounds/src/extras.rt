@@ -17,7 +17,7 @@ use crate::shared::Beside;
 use crate::shares::asked_shares;
 use crate::slack::asked_slack;
 use abstract_port::Change;
-use gate_list::Schedule;
+use gates::gate_list::Schedule;
 use script::Shares;
 use std::alloc::Global;
 use traffic::Stream;

@@ -1,14 +1,14 @@
 //! Why a run ends early, what a strict run stops for, and the texts that say so.
 
 ghost use Rattle.std.specs.Prelude.{◌≡◌};
-ghost use Rattle.octet_writer.specs.Writes.{Writes};
+ghost use Rattle.text.specs.Writes.{Writes};
 ghost use Rattle.stream_bounds.specs.Faults.{bounds_kind, bounds_telling, finding_kind, finding_text, first_text, found_text, schedules_fault, schedules_limited, schedules_text, table_fault};
 
-use answer_text::{Part, WriteFault, put, put_parts};
 use job::{Fault, FaultKind, InputFault, LineInput};
-use line_reader::{Limit, LineFault};
+use port_text::answer_text::{Part, WriteFault, put, put_parts};
 use script::{RunFault, ScriptFault, limit_fault, put_line_fault};
 use std::io::Write;
+use text::line_reader::{Limit, LineFault};
 use thiserror::Error;
 
 /// What a strict run stops a build for.

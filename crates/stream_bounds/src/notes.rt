@@ -16,7 +16,7 @@ use crate::standing::{Standing, may_send, standing_of};
 use crate::stream_lines::needs_of;
 use crate::verdicts::{Verdict, plus};
 use abstract_port::Change;
-use gate_list::Schedule;
+use gates::gate_list::Schedule;
 use script::{Basis, Sharers, Shares, Watch};
 use shared_bounds::sharing::shares_windows;
 use std::alloc::Global;

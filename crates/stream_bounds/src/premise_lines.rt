@@ -2,7 +2,7 @@
 
 ghost use Rattle.std.specs.Prelude.{◌≡◌, ◌<◌};
 ghost use Rattle.abstract_port.specs.AbstractPort.{plan_asked};
-ghost use Rattle.octet_writer.specs.Writes.{Writes};
+ghost use Rattle.text.specs.Writes.{Writes};
 ghost use Rattle.stream_bounds.specs.Answers.{has_stream, is_silent};
 ghost use Rattle.stream_bounds.specs.BoundLines.{premise_lines, silent_classes, silent_line};
 ghost use Rattle.wire_time.specs.declared.TheConstants.{CLASSES};
@@ -12,8 +12,8 @@ use crate::classes::{class_of, is_class};
 use crate::settings::BoundsSettings;
 use crate::shared::is_any;
 use abstract_port::Change;
-use answer_text::{WriteFault, put};
-use gate_list::Schedule;
+use gates::gate_list::Schedule;
+use port_text::answer_text::{WriteFault, put};
 use schedule_check::{class_count, classes_apart, map_after, put_apart};
 use std::io::Write;
 use traffic::Stream;

@@ -4,11 +4,11 @@ ghost use Rattle.std.specs.Prelude.{◌≡◌};
 ghost use Rattle.job.specs.Texts.{IsTold};
 ghost use Rattle.stream_bounds.specs.BoundsEnd.{bounds_value_kind, bounds_value_text};
 
-use class_map::ClassMap;
+use abstract_port::class_map::ClassMap;
 use job::{Ended, ValueKind};
-use octet_writer::put;
 use script::{BadValue, Settings, put_value};
 use std::io::Write;
+use text::octet_writer::put;
 use wire_time::CLASSES;
 
 /// The greatest number of frames that may be asked for.

@@ -23,7 +23,7 @@ use crate::standing::{Standing, may_send};
 use crate::verdicts::Verdict;
 use abstract_port::Change;
 use burst_bounds::{Bounds, Talker};
-use gate_list::Schedule;
+use gates::gate_list::Schedule;
 use shared_bounds::sharing::shares_windows;
 use shared_bounds::{ClassTraffic, Unbound, shared_bounds};
 use std::alloc::Global;

@@ -20,7 +20,7 @@ use crate::stream_lines::unless_dropped;
 use crate::verdicts::{Delay, delay_by};
 use abstract_port::Change;
 use delay_bounds::Bound;
-use gate_list::Schedule;
+use gates::gate_list::Schedule;
 use script::Shares;
 use std::alloc::Global;
 use traffic::Stream;

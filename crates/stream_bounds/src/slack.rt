@@ -19,7 +19,7 @@ use crate::shares::delay_at;
 use crate::stream_lines::needs_of;
 use crate::verdicts::{Met, Needs, met_by};
 use abstract_port::Change;
-use gate_list::Schedule;
+use gates::gate_list::Schedule;
 use std::alloc::Global;
 use traffic::Stream;
 use wire_time::CLASSES;

@@ -1,7 +1,7 @@
 //! The lines of streams.
 
 ghost use Rattle.std.specs.Prelude.{◌≡◌, ◌++◌, IfOk};
-ghost use Rattle.octet_writer.specs.Writes.{Writes};
+ghost use Rattle.text.specs.Writes.{Writes};
 ghost use Rattle.stream_bounds.specs.BoundLines.{bound_head, bound_line, bound_lines, deadline_end, delay_text, extra_lines, finding_in, first_of, lost, met_word, range_text, shares_line, slack_end, slack_head, slack_line, stream_finding, stream_text, unmet, why_line};
 ghost use Rattle.stream_bounds.specs.Classes.{class_of};
 ghost use Rattle.stream_bounds.specs.Verdicts.{extra_of, left_after, needs_of, next_delay, unless_dropped};
@@ -13,8 +13,8 @@ use crate::faults::Finding;
 use crate::settings::BoundsSettings;
 use crate::verdicts::{Delay, Met, Needs, met_by, plus};
 use abstract_port::{Change, Dropped};
-use answer_text::{Part, WriteFault, dropped_name, put_parts};
 use delay_bounds::Bound;
+use port_text::answer_text::{Part, WriteFault, dropped_name, put_parts};
 use script::Shares;
 use std::io::Write;
 use traffic::Stream;

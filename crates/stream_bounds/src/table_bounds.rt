@@ -4,14 +4,14 @@ ghost use Rattle.std.specs.Prelude.{◌≡◌, All, IfSome, List, Result, ℕ};
 ghost use Rattle.abstract_port.specs.declared.Command.{Command};
 ghost use Rattle.job.specs.Outcome.{Runs};
 ghost use Rattle.job.specs.declared.fault.Fault.TheVariants as Faults;
-ghost use Rattle.line_reader.specs.LineReader.{current_number, script_left};
+ghost use Rattle.text.specs.LineReader.{current_number, script_left};
 ghost use Rattle.stream_bounds.specs.BoundLines.{joined};
 ghost use Rattle.stream_bounds.specs.Classes.{IsPeriodic};
 ghost use Rattle.stream_bounds.specs.Outcome.{AreAnswers, IsBounded, IsOutcome, begun_with, bounds_in, end_fault, found_in_all, periodic, told_if};
 ghost use Rattle.stream_bounds.specs.TableRead.{IsEnd, RunsLines, may_stop};
 ghost use Rattle.stream_bounds.specs.declared.faults.BoundsInput.TheVariants as Inputs;
-ghost use Rattle.tc_reader.specs.Reader.{IsReader};
-ghost use Rattle.tc_reader.specs.declared.fault.TcFault.{TcFault};
+ghost use Rattle.port_text.specs.Reader.{IsReader};
+ghost use Rattle.port_text.specs.declared.tc_reader.fault.TcFault.{TcFault};
 ghost use Rattle.traffic.specs.Table.{table_by};
 
 use crate::bounds_report::put_line;
@@ -19,11 +19,11 @@ use crate::faults::{Answered, BoundsFault, BoundsInput, Finding, schedules_fault
 use crate::settings::BoundsSettings;
 use crate::stream_lines::first_of;
 use crate::table::PeriodicStreams;
-use line_reader::LineReader;
 use schedule_check::is_command;
 use script::{ScriptFault, Watch};
 use std::alloc::{Allocator, Global};
 use std::io::{Read, Write};
+use text::line_reader::LineReader;
 use traffic::{Stream, read_table};
 
 /// A fault of the line that was read last, where this was found before.

@@ -1,2 +1,2 @@
-pub mod WantedLaws
 pub mod PaceLaws
+pub mod WantedLaws

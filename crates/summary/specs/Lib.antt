@@ -1,4 +1,4 @@
-pub mod Observed
 pub mod Lines
-pub mod Wanted
+pub mod Observed
 pub mod Pace
+pub mod Wanted

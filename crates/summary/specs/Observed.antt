@@ -1,7 +1,7 @@
 -- What is seen of a run, answer by answer: how long frames wait, and how long the wire is busy. Moments and durations are in
 -- picoseconds.
 use Rattle.std.specs.Prelude.{ℕ, ◌+◌, ◌-◌, ◌^◌, ◌==◌, ◌/◌, nat_lt, min, max, List, [], ◌∷◌, ◌++◌, length, Option, Some, None, slice_set, slice_index_or, if◌then◌else◌}
-use Rattle.per_class.specs.Eight.{eight}
+use Rattle.abstract_port.specs.Eight.{eight}
 use Rattle.abstract_port.specs.AbstractPort.{AbstractPort}
 use Rattle.abstract_port.specs.Answers.{answers_to}
 use Rattle.abstract_port.specs.declared.Answer.{Answer}

@@ -4,8 +4,8 @@ ghost use Rattle.std.specs.Prelude.{◌≡◌};
 ghost use Rattle.summary.specs.Observed.{no_frames};
 
 use crate::waits::Waits;
+use abstract_port::per_class::PerClass;
 use circular_buffer::HeapCircularBuffer;
-use per_class::PerClass;
 use std::alloc::{AllocError, Allocator, Global};
 use std::marker::Model;
 

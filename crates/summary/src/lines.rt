@@ -1,14 +1,14 @@
 //! The lines of a summary.
 
 ghost use Rattle.std.specs.Prelude.{◌≡◌, ◌≤◌, ◌&&◌, ◌==◌, [], if◌then◌else◌};
-ghost use Rattle.octet_writer.specs.Writes.{Writes};
+ghost use Rattle.text.specs.Writes.{Writes};
 ghost use Rattle.wire_time.specs.Moment.{greatest_moment};
-ghost use Rattle.answer_text.specs.Part.{text_of};
+ghost use Rattle.port_text.specs.Part.{text_of};
 ghost use Rattle.summary.specs.Lines.{class_line, dropped_of, first_text, share_of, time_since, wait_text, wire_line};
 
 use crate::waits::Waits;
 use abstract_port::Counters;
-use answer_text::{Part, WriteFault, put_parts};
+use port_text::answer_text::{Part, WriteFault, put_parts};
 use std::io::Write;
 
 /// A number of picoseconds, or - where no frame has started.

@@ -1,16 +1,16 @@
 //! What is seen of a run, answer by answer.
 
 ghost use Rattle.std.specs.Prelude.{◌≡◌, ◌≤◌, ◌<◌, ◌-◌, ◌+◌, max, IfOk, slice_set};
-ghost use Rattle.octet_writer.specs.Writes.{Writes};
+ghost use Rattle.text.specs.Writes.{Writes};
 ghost use Rattle.wire_time.specs.Moment.{greatest_moment};
 ghost use Rattle.summary.specs.Observed.{class_at, nothing_seen, with_arrival, with_start};
 ghost use Rattle.summary.specs.Lines.{busy_by, class_text, wire_text};
 
 use crate::class_summary::ClassSummary;
 use crate::lines::{put_class_text, put_wire_line};
+use abstract_port::per_class::classes_of;
 use abstract_port::{Answer, Counters, Start};
-use answer_text::WriteFault;
-use per_class::classes_of;
+use port_text::answer_text::WriteFault;
 use std::alloc::{AllocError, Allocator, Global};
 use std::io::Write;
 use std::marker::Model;

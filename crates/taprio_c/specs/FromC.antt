@@ -5,7 +5,7 @@ use Rattle.in_memory.specs.declared.pictures.PictureValues.{PictureValues}
 use Rattle.in_memory.specs.declared.values.PortValues.{PortValues}
 use Rattle.replay.specs.declared.stamps.Stamp.{Stamp}
 use Rattle.replay.specs.declared.stamps.Stamp.TheVariants as Stamps
-use Rattle.times.specs.Times.{moment_in}
+use Rattle.text.specs.Times.{moment_in}
 use Rattle.wire_time.specs.Moment.{greatest_moment}
 use Rattle.taprio_c.specs.declared.values.CMoment.{CMoment}
 use Rattle.taprio_c.specs.declared.values.CPictureValues.{CPictureValues}

@@ -6,7 +6,7 @@ ghost use Rattle.taprio_c.specs.FromC.{asked_of, is_wanted, moment_of, moment_sa
 
 use in_memory::{BoundsAsked, PictureValues, PortValues};
 use replay::Stamp;
-use times::moment;
+use text::times::moment;
 use wire_time::MAX_MOMENT;
 
 /// 2^64.

@@ -4,10 +4,10 @@ use Rattle.std.specs.List.{flat_map}
 use Rattle.std.specs.Prelude.{codes, unwrap_or}
 use Rattle.std.specs.Str.{bytes_eq}
 use Rattle.wire_time.specs.Moment.{greatest_moment}
-use Rattle.times.specs.Times.{time_in}
-use Rattle.words.specs.Numbers.{at_most, number_in, value_behind}
-use Rattle.words.specs.Words.{words_of}
-use Rattle.line_reader.specs.Script.{Script, End, Broken, Line}
+use Rattle.text.specs.Times.{time_in}
+use Rattle.text.specs.Numbers.{at_most, number_in, value_behind}
+use Rattle.text.specs.Words.{words_of}
+use Rattle.text.specs.Script.{Script, End, Broken, Line}
 use Rattle.script.specs.Requests.{is_comment}
 use Rattle.script.specs.declared.faults.ScriptFault.{ScriptFault}
 use Rattle.script.specs.declared.faults.ScriptFault.TheVariants.{UnknownLine, BadNumber, ClockTooLate}

@@ -2,10 +2,10 @@
 use Rattle.std.proofs.Common.{◌≡◌, ◌≤◌, ◌<◌, ◌+◌, ◌-◌, ℕ, List, [], ◌∷◌, Bool, true, false, Option, Some, None, cond, refl, sym, ap, ◌∙◌, arith, length}
 use Rattle.std.specs.Prelude.{◌==◌, ◌&&◌, nat_lt, nat_le, if◌then◌else◌, option_map, unwrap_or}
 use Rattle.std.proofs.lemmas.Bool.{le-leb, le-ltb, lt-leb, ltb-false}
-use Rattle.line_reader.specs.Script.{joins}
-use Rattle.line_reader.specs.declared.lines.Limit.{Limit}
-use Rattle.line_reader.specs.declared.lines.Limit.TheVariants.{LongLine, TooManyLines}
-use Rattle.line_reader.specs.declared.lines.TheConstants.{MAX_LINE_OCTETS, MAX_LINES}
+use Rattle.text.specs.Script.{joins}
+use Rattle.text.specs.declared.line_reader.lines.Limit.{Limit}
+use Rattle.text.specs.declared.line_reader.lines.Limit.TheVariants.{LongLine, TooManyLines}
+use Rattle.text.specs.declared.line_reader.lines.TheConstants.{MAX_LINE_OCTETS, MAX_LINES}
 use Rattle.traffic.specs.Words.{IsRoomFor, IsRoomLeft, clock_count, limit_passed, line_count, line_feeds, lines_taken, room_beside, Coming}
 use Rattle.traffic.specs.declared.room.ScriptRoom.{ScriptRoom}
 use Rattle.traffic.specs.declared.room.ScriptRoom.TheVariants.{AtLeast, Exactly}

@@ -2,10 +2,10 @@
 use Rattle.std.proofs.Common.{◌≡◌, ℕ, ◌+◌, ◌<◌, ◌≤◌, Bool, true, false, eqb, ltb, cond, List, [], ◌∷◌, ◌++◌, length, Option, Some, None, refl, sym, ap, ◌∙◌, subst, arith, ◌⊎◌, inl, inr}
 use Rattle.std.specs.Prelude.{not, ◌&&◌, max}
 use Rattle.std.proofs.lemmas.Bool.{cases_lt}
-use Rattle.line_reader.specs.Script.{Script, End, Broken, Line, Progress, joins, fresh, script_from, ends, breaks_after}
-use Rattle.line_reader.specs.declared.lines.Limit.{Limit}
-use Rattle.line_reader.specs.declared.lines.Limit.TheVariants.{LongLine, TooManyLines}
-use Rattle.line_reader.specs.declared.lines.TheConstants.{MAX_LINE_OCTETS, MAX_LINES}
+use Rattle.text.specs.Script.{Script, End, Broken, Line, Progress, joins, fresh, script_from, ends, breaks_after}
+use Rattle.text.specs.declared.line_reader.lines.Limit.{Limit}
+use Rattle.text.specs.declared.line_reader.lines.Limit.TheVariants.{LongLine, TooManyLines}
+use Rattle.text.specs.declared.line_reader.lines.TheConstants.{MAX_LINE_OCTETS, MAX_LINES}
 use Rattle.traffic.specs.Merge.{clock_after, clock_in, frames_before, frames_from, latest, moment_of}
 use Rattle.traffic.specs.Room.{clock_count, limit_passed, line_count, line_feeds}
 use Rattle.traffic.specs.declared.course.Coming.{Coming}

@@ -1,11 +1,11 @@
 mod AlertLaws
 mod BeforeLaws
-mod FirstLaws
-mod FitLaws
 mod ComingLaws
 mod CountLaws
 mod CountedLaws
 mod CourseLaws
+mod FirstLaws
+mod FitLaws
 mod FrameLaws
 mod LineLaws
 mod MergeLaws

@@ -3,9 +3,9 @@ use Rattle.std.proofs.Common.{◌≡◌, ℕ, List, [], ◌++◌, Option, Some, 
 use Rattle.std.specs.Prelude.{IfSome}
 use Rattle.std.specs.Io.KnownBytes.{Appends}
 use Rattle.traffic.specs.Words.{Sent, Script, End, Broken, Line, Advances, Limit, LineFault, limit_fault, script_fault, clock_after, frames_before, frames_from, limit_passed, line_text, passed_on, unless_passed, Runs, merging, lines_of, Fault, StreamsInput, Coming}
-use Rattle.octet_writer.specs.Writes.{FallsShort}
-use Rattle.octet_writer.proofs.Fronts.{sent_all, sent_more, sent_none, sent_short}
-use Rattle.line_reader.specs.declared.lines.LineFault.TheVariants as LineFaults
+use Rattle.text.specs.Writes.{FallsShort}
+use Rattle.text.proofs.Fronts.{sent_all, sent_more, sent_none, sent_short}
+use Rattle.text.specs.declared.line_reader.lines.LineFault.TheVariants as LineFaults
 use Rattle.traffic.specs.Merge.{merged, moment_of}
 use Rattle.traffic.specs.Outcome.{fault_in}
 use Rattle.job.specs.declared.fault.Fault.TheVariants as Faults

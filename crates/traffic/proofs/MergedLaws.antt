@@ -6,11 +6,11 @@ use Rattle.std.proofs.Math.Seq.{get_or-append_seam}
 use Rattle.std.proofs.lemmas.Fmt.{decimal_by_steps_wide, length-decimal-le_wide}
 use Rattle.wire_time.specs.Moment.{greatest_moment}
 use Rattle.wire_time.specs.declared.Frame.{Frame}
-use Rattle.words.specs.Words.{is_blank, starts_blank, starts_with_break, starts_with_line_feed, words_of}
-use Rattle.line_reader.specs.Script.{Script, End, Broken, Line, joins, fresh, ends, script_of}
-use Rattle.line_reader.specs.declared.lines.Limit.{Limit}
-use Rattle.line_reader.specs.declared.lines.Limit.TheVariants.{LongLine, TooManyLines}
-use Rattle.line_reader.specs.declared.lines.TheConstants.{MAX_LINE_OCTETS, MAX_LINES}
+use Rattle.text.specs.Words.{is_blank, starts_blank, starts_with_break, starts_with_line_feed, words_of}
+use Rattle.text.specs.Script.{Script, End, Broken, Line, joins, fresh, ends, script_of}
+use Rattle.text.specs.declared.line_reader.lines.Limit.{Limit}
+use Rattle.text.specs.declared.line_reader.lines.Limit.TheVariants.{LongLine, TooManyLines}
+use Rattle.text.specs.declared.line_reader.lines.TheConstants.{MAX_LINE_OCTETS, MAX_LINES}
 use Rattle.traffic.specs.Merge.{clock_after, frames_before, frames_from, line_text, merged, moment_of, passed_line}
 use Rattle.traffic.specs.Merged.{AreComing, IsComing, MergedLaw, clock_lines, clock_words, frame_lines, frame_words, lines_in, merged_lines, tag_words}
 use Rattle.traffic.specs.Room.{clock_count, counted_in, limit_passed, line_count, lines_taken, line_feeds, passed_on, unless_passed}

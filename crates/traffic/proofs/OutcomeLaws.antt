@@ -1,10 +1,10 @@
 -- What is written for a table and a script.
 use Rattle.std.proofs.Common.{◌≡◌, ℕ, ◌-◌, List, [], Option, Some, None, Result, Ok, Err, refl, sym, ap, ◌∙◌, subst}
 use Rattle.std.specs.Prelude.{IfSome, option_map}
-use Rattle.octet_writer.proofs.Fronts.{Appends-nil, sent_none}
+use Rattle.text.proofs.Fronts.{Appends-nil, sent_none}
 use Rattle.traffic.specs.Words.{Script, Few, FrameCount, Runs, counted_in, crowded, judged, line_count, lines_taken, merging, outcome_among, outcome_by_lines, outcome_in, outcome_of, passed_on, plan_frames, ReadsTable, Table, table_of, table_fault, Fault, Stream, StreamsInput, Coming, Plan}
-use Rattle.line_reader.specs.Script.{script_of}
-use Rattle.line_reader.specs.declared.lines.TheConstants.{MAX_LINES}
+use Rattle.text.specs.Script.{script_of}
+use Rattle.text.specs.declared.line_reader.lines.TheConstants.{MAX_LINES}
 use Rattle.job.specs.Outcome.{Outcome}
 use Rattle.traffic.specs.Outcome.{outcome_unless, outcome_within}
 use Rattle.job.specs.declared.fault.Fault.TheVariants as Faults

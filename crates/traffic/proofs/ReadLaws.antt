@@ -3,9 +3,9 @@ use Rattle.std.proofs.Common.{◌≡◌, ℕ, ◌+◌, ◌<◌, ◌≤◌, Bool,
 use Rattle.std.specs.Prelude.{not, ◌&&◌, option_map}
 use Rattle.std.proofs.lemmas.Bool.{ne_eqb}
 use Rattle.std.proofs.lemmas.List.Sums.{sum_by-append, sum_by-cons}
-use Rattle.line_reader.specs.Script.{Script, End, Broken, Line, Progress, joins, fresh, script_from, ends, breaks_after}
-use Rattle.line_reader.specs.declared.lines.Limit.TheVariants.{LongLine, TooManyLines}
-use Rattle.line_reader.specs.declared.lines.TheConstants.{MAX_LINE_OCTETS, MAX_LINES}
+use Rattle.text.specs.Script.{Script, End, Broken, Line, Progress, joins, fresh, script_from, ends, breaks_after}
+use Rattle.text.specs.declared.line_reader.lines.Limit.TheVariants.{LongLine, TooManyLines}
+use Rattle.text.specs.declared.line_reader.lines.TheConstants.{MAX_LINE_OCTETS, MAX_LINES}
 use Rattle.traffic.specs.Merged.{lines_in}
 use Rattle.traffic.specs.Room.{line_feeds}
 

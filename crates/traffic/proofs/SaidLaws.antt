@@ -6,9 +6,9 @@ use Rattle.std.proofs.lemmas.Bool.{le-leb, lt-ltb, ne_eqb}
 use Rattle.std.proofs.lemmas.Fmt.{decimal_by_steps_wide}
 use Rattle.wire_time.specs.Moment.{greatest_moment}
 use Rattle.abstract_port.specs.declared.Event.TheVariants.{Arrive, Clock}
-use Rattle.words.specs.Numbers.{IsNumber, at_most, digit_in, is_digit, number_in, value_behind}
-use Rattle.words.specs.Words.{words_of}
-use Rattle.words.proofs.FrontLaws.{number_before}
+use Rattle.text.specs.Numbers.{IsNumber, at_most, digit_in, is_digit, number_in, value_behind}
+use Rattle.text.specs.Words.{words_of}
+use Rattle.text.proofs.FrontLaws.{number_before}
 use Rattle.script.specs.Requests.{clock_event, clock_with, frame_event, frame_with, said, said_in}
 use Rattle.script.specs.declared.faults.ScriptFault.TheVariants.{ClockTooLate}
 use Rattle.script.specs.declared.script_line.Said.TheVariants as Says

@@ -2,7 +2,7 @@
 use Rattle.std.proofs.Common.{◌≡◌, ℕ, List, [], ◌∷◌, ◌++◌, Option, Some, None, Result, Ok, Err, true, false, refl, sym, ap, ◌∙◌, subst, append_assoc, append-nil}
 use Rattle.std.specs.Prelude.{IfSome}
 use Rattle.traffic.specs.Words.{words_of, Script, End, Broken, Line, Advances, Limit, LineFault, limit_fault, IsUntaken, ReadsTable, TakesLine, line_judged, Fault, Stream}
-use Rattle.line_reader.specs.declared.lines.LineFault.TheVariants as LineFaults
+use Rattle.text.specs.declared.line_reader.lines.LineFault.TheVariants as LineFaults
 use Rattle.job.specs.Lines.{fault_of_line}
 use Rattle.job.specs.declared.fault.Fault.TheVariants as Faults
 use Rattle.script.specs.Outcome.{bad_line, long_line}

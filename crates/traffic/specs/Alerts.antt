@@ -1,10 +1,10 @@
 -- What who watches is told of the streams of a table that may count for strictness, in order.
 use Rattle.std.specs.Prelude.{ℕ, List, [], ◌∷◌, ◌++◌, Option, Some, None, Result, Ok, Err, is_some}
-use Rattle.line_reader.specs.Script.{Script, End, Broken, Line}
+use Rattle.text.specs.Script.{Script, End, Broken, Line}
 use Rattle.script.specs.Alerts.{Alert}
 use Rattle.script.specs.Alerts as Alerts
 use Rattle.script.specs.declared.faults.ScriptFault.{ScriptFault}
-use Rattle.words.specs.Words.{words_of}
+use Rattle.text.specs.Words.{words_of}
 use Rattle.traffic.specs.Table.{line_judged}
 use Rattle.traffic.specs.declared.table.Stream.{Stream}
 

@@ -1,6 +1,6 @@
 -- Faults of a run on a table and a script, from those of their lines, and what is reported of them.
 use Rattle.std.specs.Prelude.{List, ℕ, codes}
-use Rattle.line_reader.specs.declared.lines.LineFault.{LineFault}
+use Rattle.text.specs.declared.line_reader.lines.LineFault.{LineFault}
 use Rattle.job.specs.Lines.{fault_of_line}
 use Rattle.job.specs.Report.{Telling}
 use Rattle.job.specs.declared.fault.Fault.{Fault}

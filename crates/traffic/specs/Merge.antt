@@ -1,7 +1,7 @@
 -- The lines of a script among the frames of streams, each at its moment.
 use Rattle.std.specs.Prelude.{ℕ, nat_lt, max, List, [], ◌∷◌, ◌++◌, Option, Some, None, Result, Ok, Err, unwrap_or, codes, if◌then◌else◌}
 use Rattle.abstract_port.specs.declared.Event.TheVariants.{Arrive, Install, Clock, Query, Count}
-use Rattle.line_reader.specs.Script.{Script, End, Broken, Line, joins}
+use Rattle.text.specs.Script.{Script, End, Broken, Line, joins}
 use Rattle.script.specs.Requests.{said_in}
 use Rattle.script.specs.declared.script_line.Said.{Said}
 use Rattle.script.specs.declared.script_line.Said.TheVariants as Says

@@ -3,10 +3,10 @@ use Rattle.std.specs.Prelude.{◌≡◌, ◌≤◌, ◌<◌, ◌+◌, ◌^◌, �
 use Rattle.std.specs.List.{concat}
 use Rattle.wire_time.specs.Moment.{greatest_moment}
 use Rattle.wire_time.specs.declared.Frame.{Frame}
-use Rattle.line_reader.specs.Script.{Script, End, Broken, Line, script_of}
-use Rattle.line_reader.specs.declared.lines.TheConstants.{MAX_LINES}
+use Rattle.text.specs.Script.{Script, End, Broken, Line, script_of}
+use Rattle.text.specs.declared.line_reader.lines.TheConstants.{MAX_LINES}
 use Rattle.abstract_port.specs.declared.Event.TheVariants.{Arrive, Clock}
-use Rattle.words.specs.Words.{words_of}
+use Rattle.text.specs.Words.{words_of}
 use Rattle.script.specs.Requests.{said_in}
 use Rattle.script.specs.declared.script_line.Said.TheVariants as Says
 use Rattle.traffic.specs.Merge.{clock_after, frames_before, frames_from, merged, moment_of, passed_line}

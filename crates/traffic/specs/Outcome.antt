@@ -1,8 +1,8 @@
 -- What is written for a table of streams and a script, and the fault that ends it.
 use Rattle.std.specs.Prelude.{ℕ, ◌-◌, List, [], Option, Some, None}
-use Rattle.line_reader.specs.declared.lines.TheConstants.{MAX_LINES}
-use Rattle.line_reader.specs.declared.lines.Limit.TheVariants.{TooManyLines}
-use Rattle.line_reader.specs.Script.{Script, End, Broken, Line, script_of}
+use Rattle.text.specs.declared.line_reader.lines.TheConstants.{MAX_LINES}
+use Rattle.text.specs.declared.line_reader.lines.Limit.TheVariants.{TooManyLines}
+use Rattle.text.specs.Script.{Script, End, Broken, Line, script_of}
 use Rattle.script.specs.Outcome.{limit_fault}
 use Rattle.script.specs.declared.faults.ScriptFault.{ScriptFault}
 use Rattle.traffic.specs.Merge.{merged}

@@ -2,8 +2,8 @@
 use Rattle.std.specs.Prelude.{◌^◌, ◌-◌, List, ℕ, Bool, true, false, ◌&&◌, ◌||◌, [], ◌∷◌, Option, Some, None, is_none, Result, Ok, Err, codes, if◌then◌else◌}
 use Rattle.std.specs.Str.{bytes_eq}
 use Rattle.wire_time.specs.Moment.{greatest_moment}
-use Rattle.words.specs.Numbers.{number_in}
-use Rattle.times.specs.Times.{time_in}
+use Rattle.text.specs.Numbers.{number_in}
+use Rattle.text.specs.Times.{time_in}
 use Rattle.script.specs.declared.faults.ScriptFault.{ScriptFault}
 use Rattle.script.specs.declared.faults.ScriptFault.TheVariants.{BadNumber, WordCount}
 use Rattle.traffic.specs.declared.parts.Ends.{Ends}

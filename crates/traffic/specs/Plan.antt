@@ -1,7 +1,7 @@
 -- The frames of the streams of a table, as a plan has them within what the table leaves open.
 use Rattle.std.specs.Prelude.{◌≡◌, ◌≤◌, ◌+◌, ◌-◌, ◌*◌, ◌^◌, nat_le, ℕ, Bool, List, [], ◌∷◌, Option, Some, None, Result, Ok, Err, if◌then◌else◌}
 use Rattle.wire_time.specs.Moment.{greatest_moment}
-use Rattle.line_reader.specs.Script.{Script}
+use Rattle.text.specs.Script.{Script}
 use Rattle.script.specs.declared.faults.ScriptFault.{ScriptFault}
 use Rattle.script.specs.declared.faults.ScriptFault.TheVariants.{BadNumber, ClockTooLate}
 use Rattle.traffic.specs.Draws.{draw, value}

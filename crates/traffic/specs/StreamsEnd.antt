@@ -1,8 +1,8 @@
 -- What a run of the program on a table and a script leaves: its exit status, what the writer got, and the text of a fault.
-use Rattle.words.specs.Numbers.{number_in}
+use Rattle.text.specs.Numbers.{number_in}
 use Rattle.std.specs.Prelude.{List, ℕ, ◌-◌, ◌^◌, Bool, true, false, if◌then◌else◌, Option, Some, None, Result, Ok, Err, IfSome, unwrap_or, codes}
 use Rattle.wire_time.specs.Moment.{greatest_moment}
-use Rattle.times.specs.Times.{moment_in}
+use Rattle.text.specs.Times.{moment_in}
 use Rattle.script.specs.Given.{octets_of}
 use Rattle.script.specs.ScriptEnd.{IsRefusal}
 use Rattle.script.specs.declared.settings.BadValue.{BadValue}

@@ -2,10 +2,10 @@
 use Rattle.std.specs.Prelude.{◌≤◌, ◌^◌, ◌-◌, ◌+◌, nat_le, List, ℕ, Bool, [], ◌∷◌, Option, Some, None, Result, Ok, Err, unwrap_or, codes, if◌then◌else◌}
 use Rattle.std.specs.Str.{bytes_eq}
 use Rattle.wire_time.specs.Moment.{greatest_moment}
-use Rattle.words.specs.Words.{words_of}
-use Rattle.words.specs.Numbers.{number_in}
-use Rattle.times.specs.Times.{time_in}
-use Rattle.line_reader.specs.Script.{Script, End, Broken, Line}
+use Rattle.text.specs.Words.{words_of}
+use Rattle.text.specs.Numbers.{number_in}
+use Rattle.text.specs.Times.{time_in}
+use Rattle.text.specs.Script.{Script, End, Broken, Line}
 use Rattle.script.specs.Outcome.{limit_fault}
 use Rattle.script.specs.Requests.{is_comment}
 use Rattle.script.specs.declared.faults.ScriptFault.{ScriptFault}

@@ -1,12 +1,12 @@
 -- The words of contracts and proofs, from one place.
 pub use Rattle.wire_time.specs.Moment.{greatest_moment}
-pub use Rattle.words.specs.Words.{words_of}
-pub use Rattle.words.specs.WordsLeft.{words_left}
-pub use Rattle.octet_writer.specs.Writes.{Sent, Writes}
-pub use Rattle.line_reader.specs.LineReader.{Advances, most_lines, script_left}
-pub use Rattle.line_reader.specs.Script.{Broken, End, Line, Script}
-pub use Rattle.line_reader.specs.declared.lines.Limit.{Limit}
-pub use Rattle.line_reader.specs.declared.lines.LineFault.{LineFault}
+pub use Rattle.text.specs.Words.{words_of}
+pub use Rattle.text.specs.WordsLeft.{words_left}
+pub use Rattle.text.specs.Writes.{Sent, Writes}
+pub use Rattle.text.specs.LineReader.{Advances, most_lines, script_left}
+pub use Rattle.text.specs.Script.{Broken, End, Line, Script}
+pub use Rattle.text.specs.declared.line_reader.lines.Limit.{Limit}
+pub use Rattle.text.specs.declared.line_reader.lines.LineFault.{LineFault}
 pub use Rattle.job.specs.Outcome.{Runs}
 pub use Rattle.job.specs.declared.fault.Fault.{Fault}
 pub use Rattle.script.specs.Given.{octets_of}

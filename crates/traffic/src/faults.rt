@@ -4,11 +4,11 @@ ghost use Rattle.std.specs.Prelude.{◌≡◌};
 ghost use Rattle.traffic.specs.Faults.{streams_kind};
 ghost use Rattle.traffic.specs.Words.{script_fault, streams_telling, table_fault};
 
-use answer_text::WriteFault;
 use job::{Fault, FaultKind, InputFault};
-use line_reader::LineFault;
+use port_text::answer_text::WriteFault;
 use script::{RunFault, ScriptFault, limit_fault, put_line_fault};
 use std::io::Write;
+use text::line_reader::LineFault;
 use thiserror::Error;
 
 /// What is wrong with a table of streams and a script.

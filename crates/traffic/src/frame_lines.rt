@@ -7,9 +7,9 @@ use crate::course::Coming;
 use crate::tournament::Node;
 use crate::turn::Turn;
 use crate::turns::{next_before, next_frame};
-use answer_text::WriteFault;
-use decimal_text::{put_number, put_octet, put_short, put_text};
-use octet_writer::{LINE_ROOM, Line, PutLine};
+use port_text::answer_text::WriteFault;
+use text::decimal_text::{put_number, put_octet, put_short, put_text};
+use text::octet_writer::{LINE_ROOM, Line, PutLine};
 use wire_time::Frame;
 
 /// The clock line of a moment.

@@ -1,7 +1,7 @@
 //! The lines of a script among the frames of streams, each at its moment.
 
 ghost use Rattle.std.specs.Prelude.{◌≡◌, ◌-◌, ◌++◌, IfSome, OnOk, None};
-ghost use Rattle.line_reader.specs.declared.lines.TheConstants.{MAX_LINES};
+ghost use Rattle.text.specs.declared.line_reader.lines.TheConstants.{MAX_LINES};
 ghost use Rattle.traffic.specs.Words.{IsRoomLeft, IsTournament, Writes, script_left, clock_in, clock_said, frames_before, frames_from, latest, line_count, line_end, line_text, Runs, merging, passed_on, left_of_all, lines_of};
 
 use crate::faults::{StreamsFault, script_fault};
@@ -10,12 +10,12 @@ use crate::room::{ScriptRoom, joins, limit_passed, lines_known, room_for};
 use crate::tournament::Node;
 use crate::turn::Turn;
 use abstract_port::Event;
-use answer_text::{Part, WriteFault, put_parts};
-use line_reader::{LineFault, LineReader};
-use octet_writer::PutLine;
+use port_text::answer_text::{Part, WriteFault, put_parts};
 use script::{Said, Watch, read_line};
 use std::alloc::Allocator;
 use std::io::{Read, Write};
+use text::line_reader::{LineFault, LineReader};
+use text::octet_writer::PutLine;
 
 /// The number of a clock line.
 fn clock_said(said: Said) -> Option<u128>

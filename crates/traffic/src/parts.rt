@@ -2,13 +2,13 @@
 
 ghost use Rattle.std.specs.Prelude.{◌≡◌, ◌≤◌, ◌^◌, ◌-◌, IfOk, IfSome, MatchOption, None, Some};
 ghost use Rattle.traffic.specs.Words.{are_parts, ends_in, greatest_moment, is_part, length_of, said_by, tagged_in, time_of, value_of, values_in, words_left};
-ghost use Rattle.words.specs.Numbers.{number_in};
-ghost use Rattle.times.specs.Times.{time_in};
+ghost use Rattle.text.specs.Numbers.{number_in};
+ghost use Rattle.text.specs.Times.{time_in};
 
 use script::ScriptFault;
-use times::time;
+use text::times::time;
+use text::words::{Words, number};
 use wire_time::MAX_MOMENT;
-use words::{Words, number};
 
 /// What a stream's line says at its end.
 #[derive(Clone, Copy, Debug, PartialEq, Eq)]

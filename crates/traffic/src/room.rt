@@ -1,15 +1,15 @@
 //! What has room in a script.
 
 ghost use Rattle.std.specs.Prelude.{◌≡◌, ◌+◌, ◌≤◌, List, IfOk, IfSome, None, nat_lt};
-ghost use Rattle.line_reader.specs.Script.{joins};
+ghost use Rattle.text.specs.Script.{joins};
 ghost use Rattle.traffic.specs.Words.{AreCounted, Coming, IsRoomFor, IsRoomLeft, IsTournament, clock_count, left_of_all, limit_passed, line_count, line_feeds, lines_known, lines_taken, room_beside};
 
 use crate::frame_count::FrameCount;
 use crate::tournament::{Node, tournament};
 use crate::turn::Turn;
 use crate::turns::next_frame;
-use line_reader::{Limit, MAX_LINE_OCTETS, MAX_LINES};
 use std::alloc::{AllocError, Allocator};
+use text::line_reader::{Limit, MAX_LINE_OCTETS, MAX_LINES};
 
 /// Whether a line feed after a line would join the next line.
 pub(crate) fn joins(line: &[u8]) -> bool

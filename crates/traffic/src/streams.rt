@@ -12,11 +12,11 @@ use crate::room::script_room;
 use crate::table::Stream;
 use crate::table_reader::read_table;
 use crate::tournament::tournament;
-use line_reader::{Limit, LineReader};
-use octet_writer::PutLine;
 use script::{Watch, limit_fault};
 use std::alloc::Allocator;
 use std::io::Read;
+use text::line_reader::{Limit, LineReader};
+use text::octet_writer::PutLine;
 
 /// The fault of a table whose frames have no room in a script.
 fn crowded(counted: FrameCount) -> StreamsFault

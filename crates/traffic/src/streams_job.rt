@@ -1,21 +1,21 @@
 //! The program's job: a table of streams becomes a script.
 
 ghost use Rattle.std.specs.Prelude.{◌≡◌, ◌≤◌, IfErr, IfOk};
-ghost use Rattle.octet_writer.specs.Buffered.{writer_contents};
+ghost use Rattle.text.specs.Buffered.{writer_contents};
 ghost use Rattle.traffic.specs.Words.{octets_of, IsStreamsEnding, drawn_where, from_given, greatest_moment, plan_given, timing_given, words_of_streams};
 ghost use Rattle.traffic.specs.declared.streams_job.TheConstants.{GREATEST_SEED};
-ghost use Rattle.words.specs.Numbers.{number_in};
+ghost use Rattle.text.specs.Numbers.{number_in};
 
 use crate::plan::{Plan, Timing};
 use crate::streams::write_streams;
 use job::{Ended, Errors, end_run};
-use octet_writer::BufWriter;
 use script::{BadValue, Watch, end_with_value};
 use std::alloc::Allocator;
 use std::io::{Read, Write};
-use times::moment;
+use text::octet_writer::BufWriter;
+use text::times::moment;
+use text::words::number;
 use wire_time::MAX_MOMENT;
-use words::number;
 
 /// The greatest seed.
 const GREATEST_SEED: u128 = u64::MAX as u128;

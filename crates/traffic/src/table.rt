@@ -5,9 +5,9 @@ ghost use Rattle.traffic.specs.Words.{earliest, greatest_moment, has_ids, line_s
 
 use crate::parts::{Ends, ends_in};
 use script::{ScriptFault, Watch};
-use times::time;
+use text::times::time;
+use text::words::{Words, number};
 use wire_time::MAX_MOMENT;
-use words::{Words, number};
 
 /// Frames of one kind that come by a period.
 #[derive(Clone, Copy, Debug, PartialEq, Eq)]

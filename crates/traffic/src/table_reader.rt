@@ -8,10 +8,10 @@ ghost use Rattle.traffic.specs.Words.{Few, IsSaid, IsCount, IsTaken, IsUntaken, 
 use crate::frame_count::FrameCount;
 use crate::table::{Stream, read_stream_line};
 use job::Fault;
-use line_reader::LineReader;
 use script::{BadLine, RunFault, ScriptFault, Watch};
 use std::alloc::Allocator;
 use std::io::Read;
+use text::line_reader::LineReader;
 
 /// Why a stream isn't taken.
 #[derive(Clone, Copy, Debug, PartialEq, Eq)]

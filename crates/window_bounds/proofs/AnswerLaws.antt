@@ -3,8 +3,8 @@ use Rattle.std.proofs.Common.{◌≡◌, ◌<◌, ◌≤◌, ℕ, suc, ◌+◌, 
 use Rattle.std.proofs.lemmas.Bool.{both_ways}
 use Rattle.std.proofs.lemmas.List.{length-map}
 use Rattle.std.proofs.lemmas.Option.{get_or_from_slice_get, slice_get-get_or, slice_get-map}
-use Rattle.gate_list.specs.Gate.{Plan, mask_since}
-use Rattle.gate_list.proofs.OpenLaws.{open_within}
+use Rattle.gates.specs.Gate.{Plan, mask_since}
+use Rattle.gates.proofs.OpenLaws.{open_within}
 use Rattle.delay_bounds.specs.Walk.{may_by}
 use Rattle.delay_bounds.specs.declared.Bound.{Bound}
 use Rattle.any_traffic.specs.LateForEver.{AreLateWithin}

@@ -2,8 +2,8 @@
 use Rattle.std.proofs.Common.{Some, None, ◌≡◌, ◌<◌, ◌≤◌, ℕ, zero, suc, ◌+◌, ◌-◌, ◌*◌, ◌/◌, ◌%◌, min, Bool, inl, inr, sym, ap, ◌∙◌, subst, arith, mul-add}
 use Rattle.std.proofs.Math.Nat.{add-mod-mod, div-add-mod, mod-add-mod}
 use Rattle.std.proofs.lemmas.Bool.{cases_lt}
-use Rattle.gate_list.specs.Gate.{IsSchedule, Plan, in_ps}
-use Rattle.separation.specs.Served.{IsFirst}
+use Rattle.gates.specs.Gate.{IsSchedule, Plan, in_ps}
+use Rattle.abstract_port.specs.Served.{IsFirst}
 use Rattle.delay_bounds.specs.ForEver.{Repeats}
 use Rattle.delay_bounds.specs.Bounds.{first_fit}
 use Rattle.delay_bounds.specs.Walk.{may_by}

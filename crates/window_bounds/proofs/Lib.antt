@@ -1,10 +1,10 @@
+pub mod AnswerLaws
 pub mod BeatLaws
-pub mod SendLaws
-pub mod RunLaws
+pub mod EverLaws
+pub mod FlowLaws
+pub mod LeastLaws
 pub mod NoteLaws
+pub mod RunLaws
+pub mod SendLaws
 pub mod StepLaws
 pub mod WalkLaws
-pub mod LeastLaws
-pub mod FlowLaws
-pub mod EverLaws
-pub mod AnswerLaws

@@ -6,7 +6,7 @@ use Rattle.std.proofs.lemmas.Bool.{cases_lt}
 use Rattle.std.proofs.lemmas.List.{get_or-map, length-map, length-replicate}
 use Rattle.std.proofs.lemmas.List.Sums.{sum_by-cons}
 use Rattle.std.proofs.lemmas.Option.{same_Some}
-use Rattle.gate_list.specs.Gate.{Plan, in_ps}
+use Rattle.gates.specs.Gate.{Plan, in_ps}
 use Rattle.delay_bounds.specs.Walk.{may_by}
 use Rattle.delay_bounds.proofs.GateLaws.{by_repeats}
 use Rattle.any_traffic.specs.LateForEver.{AreWhole}

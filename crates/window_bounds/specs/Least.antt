@@ -1,6 +1,6 @@
 -- The least bounds of flows with jitter, in a class that a schedule keeps apart.
 use Rattle.std.specs.Prelude.{◌≡◌, ◌<◌, ◌≤◌, ℕ, ◌+◌, ◌%◌, Bool, List, map, length, slice_get, Some}
-use Rattle.separation.specs.Served.{IsFirst}
+use Rattle.abstract_port.specs.Served.{IsFirst}
 use Rattle.delay_bounds.specs.declared.Bound.{Bound}
 use Rattle.any_traffic.specs.LateForEver.{AreLateWithin, LateRecurs}
 use Rattle.any_traffic.specs.PeriodicRoom.{AreFewLate}

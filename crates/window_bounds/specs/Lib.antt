@@ -1,8 +1,8 @@
-pub mod Flows
 pub mod Beats
-pub mod Slots
-pub mod Notes
+pub mod Flows
 pub mod Least
+pub mod Notes
 pub mod Run
-pub mod Walk
+pub mod Slots
 pub mod Unbound
+pub mod Walk

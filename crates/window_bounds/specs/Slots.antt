@@ -1,7 +1,7 @@
 -- Frames that are sent one behind another.
 use Rattle.std.specs.Prelude.{◌≡◌, ◌<◌, ◌≤◌, ◌⊎◌, ℕ, suc, ◌+◌, Bool, List}
 use Rattle.wire_time.specs.Moment.{greatest_moment}
-use Rattle.gate_list.specs.Gate.{Plan}
+use Rattle.gates.specs.Gate.{Plan}
 use Rattle.delay_bounds.specs.Walk.{may_by}
 use Rattle.any_traffic.specs.Slots.{IsSlot}
 use Rattle.burst_bounds.specs.Unbound.{IsStuck}

@@ -1,7 +1,7 @@
 -- Why flows with jitter have no bounds.
 use Rattle.std.specs.Prelude.{◌<◌, ◌≤◌, ℕ, ◌-◌, max, Bool, List}
 use Rattle.wire_time.specs.Moment.{greatest_moment}
-use Rattle.gate_list.specs.Gate.{Plan}
+use Rattle.gates.specs.Gate.{Plan}
 use Rattle.delay_bounds.specs.Walk.{may_by}
 use Rattle.any_traffic.specs.PeriodicRoom.{IsLateFrame}
 use Rattle.any_traffic.specs.PeriodicWindows.{AreSent, IsFreeFrom, PeriodicFlow, can_by, must_before}

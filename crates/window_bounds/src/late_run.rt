@@ -2,8 +2,8 @@
 
 ghost use Rattle.std.specs.Prelude.{◌≡◌, ◌<◌, ◌≤◌, ◌+◌, ◌*◌, ◌^◌, All, List, None, true, IfErr, IfOk};
 ghost use Rattle.wire_time.specs.Moment.{greatest_moment};
-ghost use Rattle.gate_list.specs.Gate.{IsSchedule};
-ghost use Rattle.list_position.specs.Position.{IsPlaced, StoodBy};
+ghost use Rattle.gates.specs.Gate.{IsSchedule};
+ghost use Rattle.jumping.specs.Position.{IsPlaced, StoodBy};
 ghost use Rattle.delay_bounds.specs.Walk.{may_by};
 ghost use Rattle.window_bounds.specs.Beats.{AreAtBy, IsBeat};
 ghost use Rattle.window_bounds.specs.Slots.{HasSent, IsFreeBehind, IsUndone, IsUnsent};
@@ -12,8 +12,8 @@ ghost use Rattle.window_bounds.specs.declared.beats.Beat.{Beat};
 use crate::Unbound;
 use crate::beats::{Beat, pass};
 use crate::slots::next_slot;
-use gate_list::Schedule;
-use list_position::{Need, Position};
+use gates::gate_list::Schedule;
+use jumping::list_position::{Need, Position};
 use wire_time::{CLASSES, MAX_MOMENT};
 
 /// How far the late run has come.

@@ -2,8 +2,8 @@
 
 ghost use Rattle.std.specs.Prelude.{◌≡◌, ℕ, ◌<◌, ◌≤◌, All, None, Ok, IfOk, IfSome, MatchOption, length, slice_index};
 ghost use Rattle.wire_time.specs.Moment.{greatest_moment};
-ghost use Rattle.gate_list.specs.Gate.{IsSchedule, in_ps};
-ghost use Rattle.list_position.specs.Position.{IsPlaced};
+ghost use Rattle.gates.specs.Gate.{IsSchedule, in_ps};
+ghost use Rattle.jumping.specs.Position.{IsPlaced};
 ghost use Rattle.delay_bounds.specs.Walk.{may_by};
 ghost use Rattle.burst_bounds.specs.Reach.{IsCommonTime};
 ghost use Rattle.burst_bounds.specs.Unbound.{IsStuck};
@@ -14,8 +14,8 @@ ghost use Rattle.window_bounds.specs.Notes.{bound_at, jittered_at};
 use crate::JitteredFlow;
 use delay_bounds::Bound;
 use delay_bounds::fit::fit;
-use gate_list::Schedule;
-use list_position::Position;
+use gates::gate_list::Schedule;
+use jumping::list_position::Position;
 use std::alloc::{AllocError, Allocator};
 use wire_time::CLASSES;
 

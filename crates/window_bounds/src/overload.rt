@@ -2,8 +2,8 @@
 
 ghost use Rattle.std.specs.Prelude.{◌≡◌, ◌<◌, ◌≤◌, All, None, Err, IfErr, IfOk, IfSome, map};
 ghost use Rattle.wire_time.specs.Moment.{greatest_moment};
-ghost use Rattle.gate_list.specs.Gate.{IsSchedule, in_ps};
-ghost use Rattle.list_position.specs.Position.{IsPlaced};
+ghost use Rattle.gates.specs.Gate.{IsSchedule, in_ps};
+ghost use Rattle.jumping.specs.Position.{IsPlaced};
 ghost use Rattle.burst_bounds.specs.Reach.{IsCommonTime};
 ghost use Rattle.window_bounds.specs.Flows.{IsFlow, talker_of, talkers_of};
 ghost use Rattle.window_bounds.specs.Unbound.{IsHopeless};
@@ -12,8 +12,8 @@ use crate::{JitteredFlow, Unbound};
 use burst_bounds::Talker;
 use burst_bounds::rate::is_overloaded;
 use burst_bounds::repeats::common_time;
-use gate_list::Schedule;
-use list_position::Position;
+use gates::gate_list::Schedule;
+use jumping::list_position::Position;
 use std::alloc::{AllocError, Allocator};
 use wire_time::CLASSES;
 

@@ -2,16 +2,16 @@
 
 ghost use Rattle.std.specs.Prelude.{◌≡◌, ◌<◌, ◌≤◌, ◌+◌, None, IfErr, IfOk};
 ghost use Rattle.wire_time.specs.Moment.{greatest_moment};
-ghost use Rattle.gate_list.specs.Gate.{IsSchedule, in_ps};
-ghost use Rattle.list_position.specs.Position.{IsPlaced, StoodBy};
-ghost use Rattle.separation.specs.Served.{IsFirst};
+ghost use Rattle.gates.specs.Gate.{IsSchedule, in_ps};
+ghost use Rattle.jumping.specs.Position.{IsPlaced, StoodBy};
+ghost use Rattle.abstract_port.specs.Served.{IsFirst};
 ghost use Rattle.delay_bounds.specs.Walk.{may_by};
 ghost use Rattle.window_bounds.specs.Slots.{IsNoStart};
 
 use crate::Unbound;
 use burst_bounds::slots;
-use gate_list::Schedule;
-use list_position::Position;
+use gates::gate_list::Schedule;
+use jumping::list_position::Position;
 use wire_time::CLASSES;
 
 /// The first moment from `from` on from which a class stays open for so long. The list goes on to where it stands then.

@@ -2,8 +2,8 @@
 
 ghost use Rattle.std.specs.Prelude.{◌≡◌, ℕ, ◌<◌, ◌≤◌, ◌+◌, All, None, IfErr, IfOk, length};
 ghost use Rattle.wire_time.specs.Moment.{greatest_moment};
-ghost use Rattle.gate_list.specs.Gate.{IsSchedule};
-ghost use Rattle.list_position.specs.Position.{StoodBy};
+ghost use Rattle.gates.specs.Gate.{IsSchedule};
+ghost use Rattle.jumping.specs.Position.{StoodBy};
 ghost use Rattle.delay_bounds.specs.Walk.{may_by};
 ghost use Rattle.window_bounds.specs.Beats.{beat_at};
 ghost use Rattle.window_bounds.specs.Flows.{IsFlow, flows_of};
@@ -14,8 +14,8 @@ use crate::beats::{Beat, pass};
 use crate::late_run::{Run, free_behind, send};
 use crate::notes::{due_at, note};
 use crate::{JitteredFlow, Unbound};
-use gate_list::Schedule;
-use list_position::Position;
+use gates::gate_list::Schedule;
+use jumping::list_position::Position;
 use wire_time::CLASSES;
 
 /// The frames whose latest moment is `t`: they are sent, and the start of the last of those that may have come by then is

@@ -2,7 +2,7 @@
 
 ghost use Rattle.std.specs.Prelude.{◌≡◌, ℕ, ◌<◌, ◌≤◌, ◌+◌, ◌^◌, All, Some, IfErr, IfOk, IfSome, MatchOption, length, map, replicate};
 ghost use Rattle.wire_time.specs.Moment.{greatest_moment};
-ghost use Rattle.gate_list.specs.Gate.{IsSchedule, in_ps};
+ghost use Rattle.gates.specs.Gate.{IsSchedule, in_ps};
 ghost use Rattle.delay_bounds.specs.Walk.{may_by};
 ghost use Rattle.burst_bounds.specs.Reach.{IsCommonTime};
 ghost use Rattle.window_bounds.specs.Beats.{early_beat, late_beat};
@@ -14,8 +14,8 @@ use crate::beats::{Beat, soonest};
 use crate::late_run::Run;
 use crate::step::step;
 use crate::{JitteredFlow, Unbound};
-use gate_list::{Schedule, Visits};
-use list_position::Position;
+use gates::gate_list::{Schedule, Visits};
+use jumping::list_position::Position;
 use wire_time::CLASSES;
 
 /// A moment to look at, and until when the wire was taken at the one before, where there is one.

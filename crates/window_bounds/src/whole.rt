@@ -1,7 +1,7 @@
 //! The bounds of flows, by the walk.
 
 ghost use Rattle.std.specs.Prelude.{◌≡◌, ◌<◌, All, IfErr, IfOk, length};
-ghost use Rattle.gate_list.specs.Gate.{IsSchedule};
+ghost use Rattle.gates.specs.Gate.{IsSchedule};
 ghost use Rattle.delay_bounds.specs.Walk.{may_by};
 ghost use Rattle.window_bounds.specs.Flows.{IsFlow, flows_of, longest_need};
 ghost use Rattle.window_bounds.specs.Least.{AreLeast};
@@ -13,8 +13,8 @@ use crate::notes::none_seen;
 use crate::overload::repeat_of;
 use crate::walk::walk;
 use crate::{Bounded, JitteredFlow, Unbound};
-use gate_list::{Schedule, Visits};
-use list_position::Position;
+use gates::gate_list::{Schedule, Visits};
+use jumping::list_position::Position;
 use std::alloc::Allocator;
 use wire_time::CLASSES;
 

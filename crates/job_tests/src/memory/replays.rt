@@ -4,7 +4,7 @@ use crate::memory::lent::{DOTS, USUAL, has, room_for};
 use in_memory::{PortValues, ReplayRan, replay_octets};
 use replay::Stamp;
 use std::alloc::Global;
-use test_streams::{BOTH_LEFT, BOTH_TOLD, FIRST_LEFT, FIRST_TOLD, TWO_RECORDS};
+use test_support::test_streams::{BOTH_LEFT, BOTH_TOLD, FIRST_LEFT, FIRST_TOLD, TWO_RECORDS};
 
 /// Late enough for all that is sent.
 const VALUES: PortValues = PortValues {

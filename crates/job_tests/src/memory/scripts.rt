@@ -2,8 +2,8 @@
 
 use crate::memory::lent::{DOTS, USUAL, done, has};
 use in_memory::{Ran, run_octets};
-use refusing_heap::RefusingHeap;
 use std::alloc::Global;
+use test_support::refusing_heap::RefusingHeap;
 
 /// A frame, and a microsecond.
 const SCRIPT: &[u8] = b"frame 1 0 60\nclock 1000000\n";

@@ -1,7 +1,7 @@
 use Rattle.std.proofs.Common.{◌≡◌, ◌+◌, ◌-◌, ℕ, true, false, sym, subst, arith}
 use Rattle.std.proofs.lemmas.Bool.{both_ways}
-use Rattle.gate_list.specs.Gate.{in_ps, prefix}
-use Rattle.gate_list.proofs.RowLaws.{prefix_next}
+use Rattle.gates.specs.Gate.{in_ps, prefix}
+use Rattle.gates.proofs.RowLaws.{prefix_next}
 use Rattle.delay_bounds.specs.Walk.{may_by}
 use Rattle.burst_bounds.specs.Reach.{AreWindowsSeen, IsWindowSeen}
 use Rattle.burst_bounds.proofs.WindowSeenLaws.{no_more, one_more}

@@ -1,5 +1,5 @@
 use Rattle.std.proofs.Common.{◌≡◌, ◌≤◌, ◌+◌, ◌*◌, ◌^◌}
-use Rattle.gate_list.specs.Gate.{in_ps, prefix}
+use Rattle.gates.specs.Gate.{in_ps, prefix}
 use Rattle.burst_bounds.specs.Reach.{AreWindowsSeen}
 use Rattle.burst_bounds.proofs.moments.with_windows.Given as goal
 

@@ -1,5 +1,5 @@
 use Rattle.std.proofs.Common.{◌≡◌, ◌<◌, ◌≤◌, ◌+◌, ℕ, suc, subst, arith}
-use Rattle.gate_list.specs.Gate.{in_ps}
+use Rattle.gates.specs.Gate.{in_ps}
 use Rattle.wire_time.specs.Moment.{greatest_moment}
 use Rattle.delay_bounds.specs.Walk.{may_by}
 use Rattle.any_traffic.specs.Slots.{IsSlot}

@@ -1,5 +1,5 @@
 use Rattle.std.proofs.Common.{◌≡◌, ◌*◌, subst, arith}
-use Rattle.gate_list.specs.Gate.{in_ps}
+use Rattle.gates.specs.Gate.{in_ps}
 use Rattle.burst_bounds.specs.Overload.{IsShare}
 use Rattle.burst_bounds.proofs.ShareLaws.{always_is}
 use Rattle.burst_bounds.proofs.rate.share_of.Goals as goal

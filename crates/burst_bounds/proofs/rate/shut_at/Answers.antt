@@ -1,7 +1,7 @@
 use Rattle.std.proofs.Common.{◌≡◌, ℕ, true, inl, inr, sym, ap, ◌∙◌, subst, arith}
 use Rattle.std.proofs.lemmas.Bool.{cases_lt}
-use Rattle.gate_list.specs.Gate.{prefix}
-use Rattle.gate_list.proofs.RowLaws.{prefix_next}
+use Rattle.gates.specs.Gate.{prefix}
+use Rattle.gates.proofs.RowLaws.{prefix_next}
 use Rattle.delay_bounds.specs.Walk.{may_by}
 use Rattle.burst_bounds.proofs.rate.shut_at.Goals as goal
 

@@ -1,5 +1,5 @@
 use Rattle.std.proofs.Common.{◌≡◌, ◌<◌, ◌≤◌, ◌*◌, ◌^◌, ℕ, true}
-use Rattle.gate_list.specs.Gate.{prefix}
+use Rattle.gates.specs.Gate.{prefix}
 use Rattle.delay_bounds.specs.Walk.{may_by}
 use Rattle.burst_bounds.proofs.rate.shut_at.Given as goal
 

@@ -1,5 +1,5 @@
 use Rattle.std.proofs.Common.{arith}
-use Rattle.gate_list.specs.Gate.{in_ps}
+use Rattle.gates.specs.Gate.{in_ps}
 use Rattle.delay_bounds.specs.Walk.{may_by}
 use Rattle.burst_bounds.proofs.SlotLaws.{shown, not_shown}
 use Rattle.burst_bounds.proofs.slots.is_slot.Goals as goal

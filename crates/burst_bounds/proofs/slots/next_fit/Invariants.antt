@@ -1,7 +1,7 @@
 use Rattle.std.proofs.Common.{◌-◌, ◌<◌, ◌≤◌, None, Some}
-use Rattle.gate_list.specs.Gate.{mask_since}
-use Rattle.gate_list.specs.Stay.{NoneFrom}
-use Rattle.list_position.specs.Position.{IsPlaced}
+use Rattle.gates.specs.Gate.{mask_since}
+use Rattle.gates.specs.Stay.{NoneFrom}
+use Rattle.jumping.specs.Position.{IsPlaced}
 use Rattle.burst_bounds.proofs.slots.next_fit.Given as goal
 
 abbrev pub invariant-loop-visits : goal.invariant-loop-visits

@@ -1,5 +1,5 @@
 use Rattle.std.proofs.Common.{sym, arith}
-use Rattle.gate_list.specs.Gate.{in_ps}
+use Rattle.gates.specs.Gate.{in_ps}
 use Rattle.delay_bounds.specs.Walk.{may_by}
 use Rattle.delay_bounds.proofs.GateLaws.{by_repeats}
 use Rattle.delay_bounds.proofs.NeverLaws.{none_ever}

@@ -1,5 +1,5 @@
 use Rattle.std.proofs.Common.{◌≡◌, None, length}
-use Rattle.list_position.specs.Position.{StoodBy}
+use Rattle.jumping.specs.Position.{StoodBy}
 use Rattle.delay_bounds.specs.Walk.{may_by}
 use Rattle.burst_bounds.specs.Walk.{AreBelow, AreSlots}
 use Rattle.burst_bounds.proofs.SlotLaws.{IsSought}

@@ -1,6 +1,6 @@
 use Rattle.std.proofs.Common.{◌≡◌, Some, None, false, sym, ◌∙◌, arith}
-use Rattle.gate_list.specs.Gate.{in_ps, mask_since}
-use Rattle.gate_list.specs.Open.{open_while}
+use Rattle.gates.specs.Gate.{in_ps, mask_since}
+use Rattle.gates.specs.Open.{open_while}
 use Rattle.delay_bounds.proofs.FitLaws.{fit_none, fit_some, later_than, flat_to}
 use Rattle.delay_bounds.proofs.fit.fit.Goals as goal
 

@@ -1,7 +1,7 @@
 use Rattle.std.proofs.Common.{◌≡◌, ◌<◌, ◌≤◌, ◌+◌, ◌-◌, ◌*◌, ◌^◌, ℕ, Some, length, inl, inr, ap, ◌∙◌, sym, subst, arith}
 use Rattle.std.proofs.lemmas.Bool.{cases_lt}
-use Rattle.gate_list.specs.Gate.{in_ps, prefix}
-use Rattle.gate_list.proofs.RowLaws.{prefix_next}
+use Rattle.gates.specs.Gate.{in_ps, prefix}
+use Rattle.gates.proofs.RowLaws.{prefix_next}
 use Rattle.delay_bounds.specs.Bounds.{first_fit}
 use Rattle.delay_bounds.specs.LongestWait.{wait_at}
 use Rattle.delay_bounds.specs.Walk.{may_by}

@@ -1,5 +1,5 @@
 use Rattle.std.proofs.Common.{◌≡◌, ◌<◌, ◌≤◌, ◌*◌, ◌^◌, ℕ}
-use Rattle.gate_list.specs.Gate.{in_ps, prefix}
+use Rattle.gates.specs.Gate.{in_ps, prefix}
 use Rattle.delay_bounds.specs.LongestWait.{longest_of, wait_at}
 use Rattle.delay_bounds.specs.Walk.{may_by}
 use Rattle.delay_bounds.proofs.LongestWaitLaws.{late_for}

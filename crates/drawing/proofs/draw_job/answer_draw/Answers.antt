@@ -1,6 +1,6 @@
 use Rattle.std.proofs.Common.{Result, Ok, Err, refl, sym, ◌∙◌}
 use Rattle.std.specs.Prelude.{IfErr}
-use Rattle.octet_writer.specs.Buffered.{writer_contents}
+use Rattle.text.specs.Buffered.{writer_contents}
 use Rattle.drawing.proofs.EndLaws.{good_ending, picture_ending}
 use Rattle.drawing.proofs.draw_job.answer_draw.Goals as goal
 

@@ -2,7 +2,7 @@ use Rattle.std.proofs.Common.{Err, ap, ◌∙◌}
 use Rattle.std.proofs.lemmas.Result.{err_from_is_err_and}
 use Rattle.drawing.specs.Followed.{first_bands}
 use Rattle.drawing.specs.Words.{IsDrawnFrom, reading_of}
-use Rattle.line_reader.specs.Script.{script_of}
+use Rattle.text.specs.Script.{script_of}
 use Rattle.abstract_port.specs.AbstractPort.{new_port}
 use Rattle.drawing.specs.PictureEnd.{first_course}
 use Rattle.drawing.proofs.EndLaws.{without_memory}

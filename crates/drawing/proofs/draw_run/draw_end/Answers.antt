@@ -1,5 +1,5 @@
 use Rattle.std.proofs.Common.{List, ℕ, Option, ap, ap₂, ◌∙◌, subst}
-use Rattle.octet_writer.specs.Writes.{Writes}
+use Rattle.text.specs.Writes.{Writes}
 use Rattle.drawing.specs.Words.{AbstractPort, Course, course_on, port_on}
 use Rattle.drawing.specs.Followed.{BandsShown}
 use Rattle.drawing.specs.PictureEnd.{end_text}

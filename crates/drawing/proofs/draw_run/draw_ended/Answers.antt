@@ -1,7 +1,7 @@
 use Rattle.std.proofs.Common.{List, ℕ, sym, ap, ap₂, ◌∙◌, subst}
 use Rattle.std.specs.Io.KnownBytes.{Appends}
-use Rattle.octet_writer.specs.Writes.{Writes}
-use Rattle.octet_writer.proofs.Fronts.{Appends-nil}
+use Rattle.text.specs.Writes.{Writes}
+use Rattle.text.proofs.Fronts.{Appends-nil}
 use Rattle.picture.specs.Drawn.{new_drawing}
 use Rattle.std.specs.Prelude.{None}
 use Rattle.drawing.specs.Options.{viewport_shown}

@@ -1,6 +1,6 @@
 use Rattle.std.proofs.Common.{List, ℕ, ap, ap₂, ◌∙◌, subst}
 use Rattle.abstract_port.specs.declared.Event.TheVariants.{Clock}
-use Rattle.octet_writer.specs.Writes.{Writes}
+use Rattle.text.specs.Writes.{Writes}
 use Rattle.drawing.specs.Course.{Course, ended_at, seen_at}
 use Rattle.drawing.specs.Picture.{fitted_text}
 use Rattle.drawing.specs.PictureEnd.{page_of}

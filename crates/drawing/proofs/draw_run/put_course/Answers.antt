@@ -1,5 +1,5 @@
 use Rattle.std.proofs.Common.{List, ℕ, ap, ◌∙◌, subst}
-use Rattle.octet_writer.specs.Writes.{Writes}
+use Rattle.text.specs.Writes.{Writes}
 use Rattle.drawing.specs.Course.{Course}
 use Rattle.drawing.specs.Picture.{picture_text}
 use Rattle.drawing.specs.Shapes.{Shown}

@@ -1,7 +1,7 @@
 use Rattle.std.proofs.Common.{◌≡◌, Option, Some, None, Result, Ok, Err, refl, sym, ap, ◌∙◌, subst}
 use Rattle.drawing.specs.Words.{Request, Asks, request_of, tc_request, ScriptFault, TakesLine}
 use Rattle.drawing.specs.Followed.{BandsOfLine}
-use Rattle.words.specs.Words.{words_of}
+use Rattle.text.specs.Words.{words_of}
 use Rattle.script.specs.Requests.{request_said, said_in}
 use Rattle.script.specs.declared.script_line.Said.TheVariants as Says
 use Rattle.drawing.proofs.draw_run.take_line.Goals as goal

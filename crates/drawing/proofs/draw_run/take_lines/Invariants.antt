@@ -1,6 +1,6 @@
 use Rattle.std.proofs.Common.{ℕ, List, Result}
 use Rattle.drawing.specs.Words.{Command, TcFault, IsReader, script_left}
-use Rattle.line_reader.specs.LineReader.{most_lines}
+use Rattle.text.specs.LineReader.{most_lines}
 use Rattle.drawing.proofs.FollowLaws.{Follows}
 use Rattle.drawing.proofs.TakenLaws.{IsTaking}
 use Rattle.drawing.proofs.draw_run.take_lines.Given as goal

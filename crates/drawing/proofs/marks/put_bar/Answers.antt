@@ -1,6 +1,6 @@
 use Rattle.std.proofs.Common.{◌≡◌, ◌+◌, ◌-◌, ◌++◌, codes, sym, ap, ◌∙◌}
 use Rattle.std.proofs.lemmas.Result.{err_from_is_err_and}
-use Rattle.octet_writer.proofs.Fronts.{sent_exit, sent_last, sent_more, sent_none}
+use Rattle.text.proofs.Fronts.{sent_exit, sent_last, sent_more, sent_none}
 use Rattle.drawing.specs.Marks.{bar_of, bar_text, number_text, rect_text}
 use Rattle.drawing.specs.declared.page.Place.{Place}
 use Rattle.drawing.specs.declared.page.TheConstants.{LANE_HEIGHT}

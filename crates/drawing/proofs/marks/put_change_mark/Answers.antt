@@ -1,7 +1,7 @@
 use Rattle.std.proofs.Common.{◌≡◌, ◌≤◌, ◌++◌, ℕ, Option, Some, [], append-nil, sym, refl, ap, ◌∙◌, if◌then◌else◌}
 use Rattle.std.proofs.lemmas.Bool.{le-leb, lt-leb}
 use Rattle.std.proofs.lemmas.Result.{err_from_is_err_and}
-use Rattle.octet_writer.proofs.Fronts.{sent_all, sent_exit, sent_more, sent_none}
+use Rattle.text.proofs.Fronts.{sent_all, sent_exit, sent_more, sent_none}
 use Rattle.picture.specs.Viewports.{cut_to}
 use Rattle.picture.specs.declared.span.Shape.{Shape}
 use Rattle.picture.specs.declared.span.Span.{Span}

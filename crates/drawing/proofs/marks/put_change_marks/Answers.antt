@@ -1,8 +1,8 @@
 use Rattle.std.proofs.Common.{◌+◌, ℕ, drop, sym, subst}
 use Rattle.std.proofs.lemmas.List.{at_drop_more}
 use Rattle.std.proofs.lemmas.Result.{err_from_is_err_and}
-use Rattle.octet_writer.specs.Writes.{Sent}
-use Rattle.octet_writer.proofs.Fronts.{sent_exit, sent_more}
+use Rattle.text.specs.Writes.{Sent}
+use Rattle.text.proofs.Fronts.{sent_exit, sent_more}
 use Rattle.drawing.specs.Marks.{changes_text}
 use Rattle.drawing.proofs.marks.put_change_marks.Goals as goal
 

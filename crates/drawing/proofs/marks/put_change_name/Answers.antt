@@ -1,6 +1,6 @@
 use Rattle.std.proofs.Common.{◌≡◌, ◌+◌, ◌-◌, ◌++◌, ℕ, sym, ap, ◌∙◌}
 use Rattle.std.proofs.lemmas.Result.{err_from_is_err_and}
-use Rattle.octet_writer.proofs.Fronts.{sent_exit, sent_last, sent_more, sent_none}
+use Rattle.text.proofs.Fronts.{sent_exit, sent_last, sent_more, sent_none}
 use Rattle.drawing.specs.Marks.{change_name, change_number, label_in, label_text}
 use Rattle.drawing.specs.declared.page.TheConstants.{CLASS_TOP}
 use Rattle.drawing.proofs.marks.put_change_name.Goals as goal

@@ -1,5 +1,5 @@
 use Rattle.std.proofs.Common.{drop}
-use Rattle.octet_writer.specs.Writes.{Sent}
+use Rattle.text.specs.Writes.{Sent}
 use Rattle.drawing.specs.Marks.{drops_text}
 use Rattle.drawing.proofs.marks.put_drops.Given as goal
 

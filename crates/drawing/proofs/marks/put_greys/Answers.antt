@@ -1,7 +1,7 @@
 use Rattle.std.proofs.Common.{◌+◌, ◌++◌, List, drop, sym, ap, ◌∙◌}
 use Rattle.std.proofs.lemmas.List.{at_drop_more, drop_all}
 use Rattle.std.proofs.lemmas.Result.{err_from_is_err_and}
-use Rattle.octet_writer.proofs.Fronts.{sent_exit, sent_last, sent_more}
+use Rattle.text.proofs.Fronts.{sent_exit, sent_last, sent_more}
 use Rattle.picture.specs.declared.span.Shape.{Shape}
 use Rattle.drawing.specs.Marks.{grey_before, greys_text}
 use Rattle.drawing.specs.declared.marks.Grey.{Grey}

@@ -1,5 +1,5 @@
 use Rattle.std.proofs.Common.{◌≡◌, ◌-◌, List, ℕ, [], codes, sym, ap, ap₂, ◌∙◌, subst, if◌then◌else◌}
-use Rattle.octet_writer.specs.Writes.{Writes}
+use Rattle.text.specs.Writes.{Writes}
 use Rattle.drawing.specs.Marks.{light_at, light_of, light_text, rect_text}
 use Rattle.drawing.specs.declared.page.TheConstants.{LANE_HEIGHT}
 use Rattle.drawing.proofs.marks.put_light.Goals as goal

@@ -1,6 +1,6 @@
 use Rattle.std.proofs.lemmas.List.{at_drop_more}
 use Rattle.std.proofs.lemmas.Result.{err_from_is_err_and}
-use Rattle.octet_writer.proofs.Fronts.{sent_more, sent_exit}
+use Rattle.text.proofs.Fronts.{sent_more, sent_exit}
 use Rattle.drawing.specs.Marks.{lights_text}
 use Rattle.drawing.proofs.marks.put_lights.Goals as goal
 

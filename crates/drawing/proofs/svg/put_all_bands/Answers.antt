@@ -1,6 +1,6 @@
 use Rattle.std.proofs.Common.{arith}
 use Rattle.std.proofs.lemmas.Result.{err_from_is_err_and}
-use Rattle.octet_writer.proofs.Fronts.{sent_all, sent_exit, sent_more, sent_none}
+use Rattle.text.proofs.Fronts.{sent_all, sent_exit, sent_more, sent_none}
 use Rattle.drawing.specs.Picture.{class_bands}
 use Rattle.drawing.proofs.TextLaws.{each_more, each_none}
 use Rattle.drawing.proofs.svg.put_all_bands.Goals as goal

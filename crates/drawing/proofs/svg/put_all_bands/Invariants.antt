@@ -1,5 +1,5 @@
 use Rattle.std.proofs.Common.{◌-◌}
-use Rattle.octet_writer.specs.Writes.{Sent}
+use Rattle.text.specs.Writes.{Sent}
 use Rattle.drawing.specs.Axis.{each}
 use Rattle.drawing.specs.Picture.{class_bands}
 use Rattle.drawing.proofs.svg.put_all_bands.Given as goal

@@ -1,6 +1,6 @@
 use Rattle.std.proofs.Common.{◌++◌, refl}
 use Rattle.std.proofs.lemmas.Result.{err_from_is_err_and}
-use Rattle.octet_writer.proofs.Fronts.{sent_exit, sent_last, sent_more, sent_none}
+use Rattle.text.proofs.Fronts.{sent_exit, sent_last, sent_more, sent_none}
 use Rattle.drawing.specs.Axis.{axis_text, origin_text}
 use Rattle.drawing.specs.Picture.{ground_text, names_text}
 use Rattle.drawing.proofs.svg.put_ground.Goals as goal

@@ -1,6 +1,6 @@
 use Rattle.std.proofs.Common.{◌+◌, refl}
 use Rattle.std.proofs.lemmas.Result.{err_from_is_err_and}
-use Rattle.octet_writer.proofs.Fronts.{sent_exit, sent_last, sent_more, sent_none}
+use Rattle.text.proofs.Fronts.{sent_exit, sent_last, sent_more, sent_none}
 use Rattle.drawing.specs.Picture.{legend_mark, legend_text}
 use Rattle.drawing.specs.declared.page.TheConstants.{LEGEND}
 use Rattle.drawing.proofs.svg.put_legend_mark.Goals as goal

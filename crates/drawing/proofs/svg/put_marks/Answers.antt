@@ -1,6 +1,6 @@
 use Rattle.std.proofs.Common.{◌++◌, List, sym, refl, ap}
 use Rattle.std.proofs.lemmas.Result.{err_from_is_err_and}
-use Rattle.octet_writer.proofs.Fronts.{sent_exit, sent_last, sent_more, sent_none}
+use Rattle.text.proofs.Fronts.{sent_exit, sent_last, sent_more, sent_none}
 use Rattle.picture.specs.declared.span.Shape.{Shape}
 use Rattle.drawing.specs.Marks.{changes_text}
 use Rattle.drawing.specs.Picture.{lanes_text, marks_text}

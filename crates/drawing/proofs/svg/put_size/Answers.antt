@@ -1,5 +1,5 @@
 use Rattle.std.proofs.Common.{ℕ, subst}
-use Rattle.octet_writer.specs.Writes.{Writes}
+use Rattle.text.specs.Writes.{Writes}
 use Rattle.drawing.specs.Picture.{size_text}
 use Rattle.drawing.proofs.svg.put_size.Goals as goal
 

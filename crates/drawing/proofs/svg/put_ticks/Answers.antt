@@ -1,6 +1,6 @@
 use Rattle.std.proofs.Common.{◌+◌, ◌-◌, ◌*◌, ◌++◌, sym, ap, ◌∙◌, arith}
 use Rattle.std.proofs.lemmas.Result.{err_from_is_err_and}
-use Rattle.octet_writer.proofs.Fronts.{sent_all, sent_exit, sent_more}
+use Rattle.text.proofs.Fronts.{sent_all, sent_exit, sent_more}
 use Rattle.picture.specs.Ticks.{unit_of}
 use Rattle.picture.specs.declared.ticks.Unit.{Unit}
 use Rattle.drawing.specs.Axis.{each, tick_at}

@@ -1,5 +1,5 @@
 use Rattle.std.proofs.Common.{◌+◌, ◌-◌, ◌*◌}
-use Rattle.octet_writer.specs.Writes.{Sent}
+use Rattle.text.specs.Writes.{Sent}
 use Rattle.picture.specs.Ticks.{unit_of}
 use Rattle.drawing.specs.Axis.{each, tick_at, ticks_text}
 use Rattle.drawing.proofs.svg.put_ticks.Given as goal

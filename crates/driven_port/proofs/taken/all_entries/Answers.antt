@@ -1,6 +1,6 @@
 use Rattle.std.proofs.Common.{rules, ◌≡◌, sym, ◌∙◌, length, slice_index_or}
 use Rattle.std.proofs.lemmas.List.{ext_get_or, get_or-map, length-map}
-use Rattle.gate_list.specs.declared.Entry.{Entry}
+use Rattle.gates.specs.declared.gate_list.Entry.{Entry}
 use Rattle.driven_port.specs.declared.values.CEntry.{CEntry}
 use Rattle.driven_port.specs.Taken.{all_entries}
 use Rattle.driven_port.proofs.taken.all_entries.Goals as goal

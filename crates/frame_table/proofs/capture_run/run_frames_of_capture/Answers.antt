@@ -1,6 +1,6 @@
 use Rattle.std.proofs.Common.{List, [], Ok, Err, Result, false, true, ◌≡◌, sym, ap, ◌∙◌, subst}
 use Rattle.std.proofs.lemmas.Result.{err_from_is_err_and}
-use Rattle.line_reader.specs.Script.{script_of}
+use Rattle.text.specs.Script.{script_of}
 use Rattle.replay.specs.Lines as Beside
 use Rattle.replay.proofs.ReplayLaws.{comes_new, opened, when_known}
 use Rattle.script.specs.Alerts.{Alert}

@@ -1,5 +1,5 @@
 use Rattle.std.proofs.Common.{◌≡◌, Result, Ok, Err, sym, ◌∙◌, subst}
-use Rattle.octet_writer.specs.Buffered.{writer_contents}
+use Rattle.text.specs.Buffered.{writer_contents}
 use Rattle.frame_table.specs.Words.{IsEnding, whole_frames}
 use Rattle.script.specs.Setup.{Setup}
 use Rattle.script.specs.declared.settings.BadValue.{BadValue}

@@ -1,5 +1,5 @@
 use Rattle.std.proofs.lemmas.Result.{err_from_is_err_and}
-use Rattle.octet_writer.proofs.Fronts.{sent_all, sent_exit, sent_more, sent_none}
+use Rattle.text.proofs.Fronts.{sent_all, sent_exit, sent_more, sent_none}
 use Rattle.script.proofs.AlertLaws.{alerted_all, alerted_more, alerted_none}
 use Rattle.frame_table.specs.Words.{judged_row, row_line}
 use Rattle.frame_table.proofs.AlertLaws.{alerting_in}

@@ -1,6 +1,6 @@
 use Rattle.std.proofs.Common.{◌≡◌, ◌++◌, List, ℕ, Option, Some, ap, sym, ◌∙◌, append-nil}
 use Rattle.std.proofs.lemmas.Result.{err_from_is_err_and}
-use Rattle.octet_writer.proofs.Fronts.{sent_exit, sent_last, sent_more, sent_none}
+use Rattle.text.proofs.Fronts.{sent_exit, sent_last, sent_more, sent_none}
 use Rattle.frame_table.specs.Words.{AbstractPort, Arrival, Clock, Stream, ending_text, judged_rows, left_rows, rows_at, rows_text}
 use Rattle.script.proofs.AlertLaws.{alerting_fault, front_of_more}
 use Rattle.frame_table.proofs.AlertLaws.{alerting_last}

@@ -1,5 +1,5 @@
 use Rattle.std.proofs.Common.{◌≡◌, [], Option, Some, sym, ap, ◌∙◌, subst, append-nil}
-use Rattle.octet_writer.proofs.Fronts.{Appends-nil}
+use Rattle.text.proofs.Fronts.{Appends-nil}
 use Rattle.std.specs.Io.KnownBytes.{Appends}
 use Rattle.frame_table.specs.Words.{Arrival, FrameRow, Writes, first_came, judged_row, judged_rows, rows_text, sent_row}
 use Rattle.frame_table.specs.declared.rows.Fate.TheVariants.{Sent}

@@ -1,7 +1,7 @@
 use Rattle.std.proofs.Common.{ℕ, List, Err, refl, sym, ap, ◌∙◌, subst}
 use Rattle.std.proofs.lemmas.Result.{err_from_is_err_and}
 use Rattle.std.specs.Io.KnownBytes.{Appends}
-use Rattle.octet_writer.proofs.Fronts.{Appends-nil}
+use Rattle.text.proofs.Fronts.{Appends-nil}
 use Rattle.frame_table.specs.Words.{Arrive, FallsShort, rows_told}
 use Rattle.frame_table.proofs.AlertLaws.{alerting_behind, alerting_none, told_both, told_nil}
 use Rattle.frame_table.proofs.ArrivalLaws.{after_frame, joins-alerts, joins-text, joins-waiting, lost-alerts, lost-text, lost-waiting}

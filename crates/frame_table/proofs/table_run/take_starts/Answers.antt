@@ -1,6 +1,6 @@
 use Rattle.std.proofs.Common.{ap, refl, sym, ◌∙◌}
 use Rattle.std.proofs.lemmas.Result.{err_from_is_err_and}
-use Rattle.octet_writer.proofs.Fronts.{sent_all, sent_exit, sent_more, sent_none}
+use Rattle.text.proofs.Fronts.{sent_all, sent_exit, sent_more, sent_none}
 use Rattle.script.proofs.AlertLaws.{alerted_all, alerted_more, alerted_none}
 use Rattle.script.proofs.ClockLaws.{given_start, later_still, start_fewer, start_none}
 use Rattle.frame_table.specs.Words.{Clock, answers_to, departs, judged_row, judged_rows, row_line, rows_text, starts_in}

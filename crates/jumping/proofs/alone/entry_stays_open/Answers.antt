@@ -1,7 +1,7 @@
 use Rattle.std.proofs.Common.{◌+◌, ◌-◌, None, refl, sym, ap, ◌∙◌, subst}
-use Rattle.gate_list.specs.declared.Stay.TheVariants.{Lasts, Always}
-use Rattle.gate_list.specs.Stay.{TellsOpenTime, stay_lasts}
-use Rattle.list_position.proofs.PositionLaws.{entry_open}
+use Rattle.gates.specs.declared.gate_list.Stay.TheVariants.{Lasts, Always}
+use Rattle.gates.specs.Stay.{TellsOpenTime, stay_lasts}
+use Rattle.jumping.proofs.PositionLaws.{entry_open}
 use Rattle.jumping.proofs.alone.entry_stays_open.Goals as goal
 
 pub returns-in-Always : goal.returns-in-Always

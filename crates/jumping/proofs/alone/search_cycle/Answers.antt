@@ -1,6 +1,6 @@
 use Rattle.std.proofs.Common.{◌+◌, ◌*◌, ℕ, inl, inr, arith, le_refl}
 use Rattle.std.proofs.lemmas.Bool.{cases_lt}
-use Rattle.gate_list.proofs.RowLaws.{prefix_next}
+use Rattle.gates.proofs.RowLaws.{prefix_next}
 use Rattle.jumping.specs.Words.{repeated}
 use Rattle.jumping.proofs.SearchLaws.{searched_join}
 use Rattle.jumping.proofs.RoundLaws.{asked_here, place_mask, place_none, searched_late}

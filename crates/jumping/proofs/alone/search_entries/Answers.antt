@@ -1,5 +1,5 @@
 use Rattle.std.proofs.Common.{arith, le_refl, refl}
-use Rattle.gate_list.proofs.RowLaws.{prefix_next}
+use Rattle.gates.proofs.RowLaws.{prefix_next}
 use Rattle.jumping.specs.Words.{repeated}
 use Rattle.jumping.specs.declared.alone.Place.{Place}
 use Rattle.jumping.proofs.SearchLaws.{fits_empty, fits_join}

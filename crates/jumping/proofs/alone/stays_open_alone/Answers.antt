@@ -1,7 +1,7 @@
 use Rattle.std.proofs.Common.{None, sym, ap, ◌∙◌, arith}
 use Rattle.jumping.specs.Words.{opens, open_while, shows_alone}
-use Rattle.gate_list.proofs.OpenLaws.{open_from}
-use Rattle.list_position.proofs.PositionLaws.{placed_mask, shut_now}
+use Rattle.gates.proofs.OpenLaws.{open_from}
+use Rattle.jumping.proofs.PositionLaws.{placed_mask, shut_now}
 use Rattle.jumping.proofs.alone.stays_open_alone.Goals as goal
 
 pub returns-then-length-eq0 : goal.returns-then-length-eq0

@@ -2,7 +2,7 @@ use Rattle.std.proofs.Common.{rules, ◌≡◌, Bool, true, false, ◌&&◌, Som
 use Rattle.std.proofs.lemmas.Bool.{false≢true}
 use Rattle.std.proofs.lemmas.Option.{get_or_from_slice_get}
 use Rattle.std.specs.Int.Bits.{bit_and}
-use Rattle.gate_list.proofs.TableLaws.{opens_both, opens_none}
+use Rattle.gates.proofs.TableLaws.{opens_both, opens_none}
 use Rattle.jumping.specs.Words.{opens}
 use Rattle.jumping.proofs.AloneLaws.{need_inside}
 use Rattle.jumping.proofs.search.opens_some.Goals as goal

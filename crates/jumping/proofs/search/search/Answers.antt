@@ -1,6 +1,6 @@
 use Rattle.std.proofs.Common.{ℕ, ◌∷◌, Option, Some, sym, ap, subst}
 use Rattle.jumping.specs.Words.{mask_in, DoFollow, from_of, lent_leg, until_of, stretch_of, stretch_in, stretches_in, NoneFits, Searched, up_to}
-use Rattle.jumping.proofs.LegLaws.{searched_then}
+use Rattle.jumping.proofs.LegSearchLaws.{searched_then}
 use Rattle.jumping.proofs.SearchLaws.{searched_none}
 use Rattle.jumping.proofs.search.search.Goals as goal
 

@@ -1,5 +1,5 @@
 use Rattle.jumping.specs.Words.{mask_in, from_of, lent_rest, stretches_ahead}
-use Rattle.jumping.proofs.LegLaws.{flat_leg}
+use Rattle.jumping.proofs.LegSearchLaws.{flat_leg}
 use Rattle.jumping.proofs.SearchLaws.{fits_flat}
 use Rattle.jumping.proofs.search.search_flat.Goals as goal
 

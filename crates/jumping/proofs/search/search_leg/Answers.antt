@@ -1,6 +1,6 @@
 use Rattle.std.proofs.Common.{None, sym, subst}
 use Rattle.jumping.specs.Words.{mask_of, IsFlat, from_of, stretch_of}
-use Rattle.jumping.proofs.LegLaws.{flat_open}
+use Rattle.jumping.proofs.LegSearchLaws.{flat_open}
 use Rattle.jumping.proofs.search.search_leg.Goals as goal
 
 pub returns-in-Open-clause-searched : goal.returns-in-Open-clause-searched

@@ -1,5 +1,5 @@
 use Rattle.std.proofs.Common.{rules, subst}
-use Rattle.gate_list.specs.Gate.{Plan}
+use Rattle.gates.specs.Gate.{Plan}
 use Rattle.path_bounds.specs.Answers.{AreSharing}
 use Rattle.path_bounds.specs.Judged.{class_in, port_in}
 use Rattle.path_bounds.proofs.StepLaws.{port_of_all}

@@ -1,5 +1,5 @@
-use Rattle.line_reader.specs.LineReader.{script_left}
-use Rattle.network_table.specs.Reads.{seen}
+use Rattle.text.specs.LineReader.{script_left}
+use Rattle.network.specs.Reads.{seen}
 use Rattle.script.specs.Given.{octets_of}
 use Rattle.paths.proofs.EndLaws.{bad_network, both_from, both_some, with_network}
 use Rattle.paths.proofs.network_lines.answer_lines.Goals as goal

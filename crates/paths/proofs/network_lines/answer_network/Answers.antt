@@ -1,6 +1,6 @@
 use Rattle.std.proofs.Common.{◌∙◌, sym}
-use Rattle.line_reader.specs.LineReader.{script_left}
-use Rattle.network_table.specs.Reads.{seen}
+use Rattle.text.specs.LineReader.{script_left}
+use Rattle.network.specs.Reads.{seen}
 use Rattle.script.specs.Given.{octets_of}
 use Rattle.paths.proofs.EndLaws.{bad_schedules, if_some, map_some, unnamed, with_schedules}
 use Rattle.paths.proofs.network_lines.answer_network.Goals as goal

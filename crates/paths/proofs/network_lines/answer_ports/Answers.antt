@@ -1,5 +1,5 @@
 use Rattle.std.proofs.Common.{refl}
-use Rattle.network_table.specs.Reads.{seen}
+use Rattle.network.specs.Reads.{seen}
 use Rattle.paths.proofs.EndLaws.{answered, no_memory}
 use Rattle.paths.proofs.network_lines.answer_ports.Goals as goal
 

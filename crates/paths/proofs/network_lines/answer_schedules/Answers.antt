@@ -1,4 +1,4 @@
-use Rattle.network_table.specs.Reads.{seen}
+use Rattle.network.specs.Reads.{seen}
 use Rattle.paths.proofs.EndLaws.{refused, with_ports}
 use Rattle.paths.proofs.network_lines.answer_schedules.Goals as goal
 

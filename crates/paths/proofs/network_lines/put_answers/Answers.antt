@@ -1,6 +1,6 @@
 use Rattle.std.proofs.Common.{◌*◌, false, length, refl}
 use Rattle.std.proofs.lemmas.Result.{err_from_is_err_and}
-use Rattle.octet_writer.proofs.Fronts.{sent_exit, sent_last, sent_more, sent_none}
+use Rattle.text.proofs.Fronts.{sent_exit, sent_last, sent_more, sent_none}
 use Rattle.paths.specs.Outcome.{answer_lines}
 use Rattle.paths.specs.PortLines.{cyclic_line, ports_lines}
 use Rattle.paths.proofs.network_lines.put_answers.Goals as goal

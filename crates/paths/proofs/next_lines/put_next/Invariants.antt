@@ -1,5 +1,5 @@
 use Rattle.std.proofs.Common.{drop}
-use Rattle.octet_writer.specs.Writes.{Sent}
+use Rattle.text.specs.Writes.{Sent}
 use Rattle.paths.specs.NextLines.{next_lines}
 use Rattle.paths.proofs.next_lines.put_next.Given as goal
 

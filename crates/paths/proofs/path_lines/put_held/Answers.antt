@@ -1,6 +1,6 @@
 use Rattle.std.proofs.Common.{refl, slice_get}
 use Rattle.std.proofs.lemmas.Result.{err_from_is_err_and}
-use Rattle.octet_writer.proofs.Fronts.{sent_exit, sent_last, sent_more, sent_none}
+use Rattle.text.proofs.Fronts.{sent_exit, sent_last, sent_more, sent_none}
 use Rattle.paths.specs.PathLines.{held_lines, hop_line}
 use Rattle.paths.proofs.path_lines.put_held.Goals as goal
 

@@ -1,6 +1,6 @@
 use Rattle.std.proofs.Common.{refl}
 use Rattle.std.proofs.lemmas.Result.{err_from_is_err_and}
-use Rattle.octet_writer.proofs.Fronts.{sent_all, sent_exit, sent_more}
+use Rattle.text.proofs.Fronts.{sent_all, sent_exit, sent_more}
 use Rattle.paths.proofs.PathLaws.{hop_end, hop_more}
 use Rattle.paths.proofs.path_lines.put_paths.Goals as goal
 

@@ -1,5 +1,5 @@
 use Rattle.std.proofs.Common.{drop, false}
-use Rattle.octet_writer.specs.Writes.{Sent}
+use Rattle.text.specs.Writes.{Sent}
 use Rattle.paths.specs.PathLines.{paths_lines}
 use Rattle.paths.proofs.path_lines.put_paths.Given as goal
 

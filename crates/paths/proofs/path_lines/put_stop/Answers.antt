@@ -1,6 +1,6 @@
 use Rattle.std.proofs.Common.{codes, refl, slice_get}
 use Rattle.std.proofs.lemmas.Result.{err_from_is_err_and}
-use Rattle.octet_writer.proofs.Fronts.{sent_exit, sent_last, sent_more, sent_none}
+use Rattle.text.proofs.Fronts.{sent_exit, sent_last, sent_more, sent_none}
 use Rattle.paths.specs.PathLines.{named, stop_head, stop_line}
 use Rattle.paths.proofs.path_lines.put_stop.Goals as goal
 

@@ -1,5 +1,5 @@
 use Rattle.std.proofs.lemmas.Result.{err_from_is_err_and}
-use Rattle.octet_writer.proofs.Fronts.{sent_all, sent_exit, sent_more}
+use Rattle.text.proofs.Fronts.{sent_all, sent_exit, sent_more}
 use Rattle.paths.proofs.LineLaws.{name_end, name_more}
 use Rattle.paths.proofs.port_lines.put_names.Goals as goal
 

@@ -1,5 +1,5 @@
 use Rattle.std.proofs.Common.{◌-◌}
-use Rattle.octet_writer.specs.Writes.{Sent}
+use Rattle.text.specs.Writes.{Sent}
 use Rattle.paths.specs.PortLines.{cyclic_names}
 use Rattle.paths.proofs.port_lines.put_names.Given as goal
 

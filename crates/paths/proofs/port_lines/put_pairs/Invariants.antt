@@ -1,5 +1,5 @@
 use Rattle.std.proofs.Common.{◌-◌}
-use Rattle.octet_writer.specs.Writes.{Sent}
+use Rattle.text.specs.Writes.{Sent}
 use Rattle.paths.specs.PortLines.{pair_lines}
 use Rattle.paths.proofs.port_lines.put_pairs.Given as goal
 

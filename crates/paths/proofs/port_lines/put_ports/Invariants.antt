@@ -1,5 +1,5 @@
 use Rattle.std.proofs.Common.{drop}
-use Rattle.octet_writer.specs.Writes.{Sent}
+use Rattle.text.specs.Writes.{Sent}
 use Rattle.paths.specs.PortLines.{ports_lines}
 use Rattle.paths.proofs.port_lines.put_ports.Given as goal
 

@@ -1,8 +1,8 @@
 use Rattle.std.proofs.Common.{ℕ, List, Some, slice_get, refl, subst}
 use Rattle.std.proofs.lemmas.Result.{err_from_is_err_and}
 use Rattle.std.specs.Io.KnownBytes.{Appends}
-use Rattle.octet_writer.proofs.Fronts.{sent_exit, sent_last, sent_more, sent_none}
-use Rattle.octet_writer.specs.Writes.{FallsShort, Writes}
+use Rattle.text.proofs.Fronts.{sent_exit, sent_last, sent_more, sent_none}
+use Rattle.text.specs.Writes.{FallsShort, Writes}
 use Rattle.path_bounds.specs.declared.hop.Hop.{Hop}
 use Rattle.paths.specs.PortLines.{head_by, lines_by, pair_lines, premises_at}
 use Rattle.paths.proofs.port_lines.put_told.Goals as goal

@@ -1,5 +1,5 @@
 use Rattle.std.proofs.Common.{◌≡◌, Ok}
-use Rattle.gate_list.specs.Gate.{gate_fault, ok_unless}
+use Rattle.gates.specs.Gate.{gate_fault, ok_unless}
 use Rattle.paths.proofs.PortLaws.{good_list}
 use Rattle.paths.proofs.ports.copied_list.Goals as goal
 

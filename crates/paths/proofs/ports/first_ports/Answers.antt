@@ -1,6 +1,6 @@
 use Rattle.std.proofs.Common.{arith}
 use Rattle.std.proofs.lemmas.Result.{err_from_is_err_and}
-use Rattle.network_table.specs.Reads.{seen}
+use Rattle.network.specs.Reads.{seen}
 use Rattle.paths.proofs.PortLaws.{one_longer, out_of_memory, port_end, port_more, port_refused, refused_so}
 use Rattle.paths.proofs.ports.first_ports.Goals as goal
 

@@ -1,5 +1,5 @@
 use Rattle.std.proofs.Common.{◌≡◌, ◌≤◌, ◌-◌, [], All, length}
-use Rattle.network_table.specs.Reads.{seen}
+use Rattle.network.specs.Reads.{seen}
 use Rattle.path_bounds.specs.Hops.{IsPort}
 use Rattle.paths.specs.Ports.{ports_from}
 use Rattle.paths.proofs.ports.first_ports.Given as goal

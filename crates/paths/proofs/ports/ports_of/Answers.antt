@@ -1,4 +1,4 @@
-use Rattle.network_table.specs.Reads.{seen}
+use Rattle.network.specs.Reads.{seen}
 use Rattle.paths.proofs.PortLaws.{too_many}
 use Rattle.paths.proofs.ports.ports_of.Goals as goal
 

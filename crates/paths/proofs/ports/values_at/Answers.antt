@@ -1,5 +1,5 @@
 use Rattle.std.proofs.Common.{sym, ap, ◌∙◌}
-use Rattle.network_table.proofs.FirstLaws.{first_here, first_more, first_none}
+use Rattle.network.proofs.FirstLaws.{first_here, first_more, first_none}
 use Rattle.paths.specs.Ports.{values_of}
 use Rattle.paths.proofs.ports.values_at.Goals as goal
 

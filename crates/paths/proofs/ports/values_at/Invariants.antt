@@ -1,5 +1,5 @@
 use Rattle.std.proofs.Common.{◌≡◌, drop}
-use Rattle.network_table.specs.Network.{first_of}
+use Rattle.network.specs.Network.{first_of}
 use Rattle.paths.specs.Ports.{values_of}
 use Rattle.paths.proofs.ports.values_at.Given as goal
 

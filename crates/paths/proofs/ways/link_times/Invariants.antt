@@ -1,5 +1,5 @@
 use Rattle.std.proofs.Common.{◌≡◌, drop}
-use Rattle.network_table.specs.Network.{first_of}
+use Rattle.network.specs.Network.{first_of}
 use Rattle.paths.specs.Ways.{times_of}
 use Rattle.paths.proofs.ways.link_times.Given as goal
 

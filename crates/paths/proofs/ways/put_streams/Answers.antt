@@ -1,4 +1,4 @@
-use Rattle.network_table.specs.Reads.{seen}
+use Rattle.network.specs.Reads.{seen}
 use Rattle.paths.proofs.WayLaws.{way_end, way_more}
 use Rattle.paths.proofs.ways.put_streams.Goals as goal
 

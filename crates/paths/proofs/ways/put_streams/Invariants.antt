@@ -1,5 +1,5 @@
 use Rattle.std.proofs.Common.{◌≡◌, All, drop}
-use Rattle.network_table.specs.Reads.{seen}
+use Rattle.network.specs.Reads.{seen}
 use Rattle.stream_bounds.specs.Classes.{IsPeriodic}
 use Rattle.paths.specs.Ways.{ways_from}
 use Rattle.paths.proofs.ways.put_streams.Given as goal

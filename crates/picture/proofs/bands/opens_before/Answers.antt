@@ -1,7 +1,7 @@
 use Rattle.std.proofs.Common.{refl, sym, subst, arith}
 use Rattle.std.specs.Prelude.{◌≡◌, IsSome, None}
 use Rattle.picture.specs.Words.{gates}
-use Rattle.list_config.specs.Choice.{first_choice}
+use Rattle.gates.specs.Choice.{first_choice}
 use Rattle.picture.proofs.MixLaws.{choice_opens, no_choice_shut, opens_there, opens_nowhere}
 use Rattle.picture.proofs.bands.opens_before.Goals as goal
 

@@ -1,5 +1,5 @@
 use Rattle.job.proofs.RunEndLaws.{ended}
-use Rattle.octet_writer.specs.Buffered.{writer_contents}
+use Rattle.text.specs.Buffered.{writer_contents}
 use Rattle.plan.proofs.EndLaws.{if_some, let_out}
 use Rattle.plan.specs.Faults.{plan_telling}
 use Rattle.plan.specs.PlanEnd.{IsPlanned}

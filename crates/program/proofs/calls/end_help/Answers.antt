@@ -1,5 +1,5 @@
 use Rattle.std.proofs.Common.{ap, sym, ◌∙◌}
-use Rattle.octet_writer.specs.Buffered.{writer_buffer}
+use Rattle.text.specs.Buffered.{writer_buffer}
 use Rattle.program.proofs.calls.end_help.Goals as goal
 
 pub returns : goal.returns

@@ -1,5 +1,5 @@
 use Rattle.std.proofs.Common.{◌≡◌, List, ℕ, Option, Some, Result, Ok, Err, codes, inl, inr, ap, sym, ◌∙◌, subst}
-use Rattle.octet_writer.specs.Buffered.{writer_contents}
+use Rattle.text.specs.Buffered.{writer_contents}
 use Rattle.std.specs.Prelude.{IfErr}
 use Rattle.clap.specs.Matches.{first_value, found_of}
 use Rattle.frame_table.specs.Alerts as Frames

@@ -1,6 +1,6 @@
 use Rattle.std.proofs.Common.{◌≡◌, List, ℕ, Option, Some, Result, Ok, Err, codes, inl, inr, refl, ap, sym, ◌∙◌, subst}
 use Rattle.std.specs.Prelude.{IfErr}
-use Rattle.octet_writer.specs.Buffered.{writer_contents}
+use Rattle.text.specs.Buffered.{writer_contents}
 use Rattle.clap.specs.Matches.{first_value, found_of}
 use Rattle.program.specs.Given.{IsGivenPaths, bounds_in}
 use Rattle.stream_bounds.specs.declared.settings.BoundsSettings.{BoundsSettings}

@@ -1,5 +1,5 @@
 use Rattle.std.proofs.Common.{List, ℕ, Option, Some, Result, Ok, Err, codes, ap, ◌∙◌, subst}
-use Rattle.octet_writer.specs.Buffered.{writer_contents}
+use Rattle.text.specs.Buffered.{writer_contents}
 use Rattle.clap.specs.Matches.{found_of}
 use Rattle.plan.specs.Given.{IsGiven}
 use Rattle.plan.specs.declared.settings.PlanSettings.{PlanSettings}

@@ -1,4 +1,4 @@
-use Rattle.octet_writer.specs.Buffered.{writer_contents}
+use Rattle.text.specs.Buffered.{writer_contents}
 use Rattle.program.proofs.replay_call.replay_files.Goals as goal
 
 pub returns : goal.returns

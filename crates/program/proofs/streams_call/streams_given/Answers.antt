@@ -1,6 +1,6 @@
 use Rattle.std.proofs.Common.{◌≡◌, List, ℕ, Option, Some, Result, Ok, Err, codes, inr, ap, sym, ◌∙◌, subst}
 use Rattle.std.specs.Prelude.{IfErr}
-use Rattle.octet_writer.specs.Buffered.{writer_contents}
+use Rattle.text.specs.Buffered.{writer_contents}
 use Rattle.clap.specs.Matches.{first_value, found_of}
 use Rattle.program.specs.Given.{IsGivenStreams, plan_in}
 use Rattle.script.specs.declared.settings.BadValue.{BadValue}

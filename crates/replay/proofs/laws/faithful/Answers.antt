@@ -1,4 +1,4 @@
-use Rattle.separation.proofs.RunLaws.{keeping}
+use Rattle.abstract_port.proofs.SeparateRunLaws.{keeping}
 use Rattle.replay.specs.Words.{events_of, new_port, all_requests}
 use Rattle.script.proofs.OutputLaws.{answers-told}
 use Rattle.replay.proofs.laws.faithful.Goals as goal

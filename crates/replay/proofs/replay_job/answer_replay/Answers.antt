@@ -1,5 +1,5 @@
 use Rattle.std.proofs.Common.{sym, ap}
-use Rattle.octet_writer.specs.Buffered.{writer_buffer, writer_contents}
+use Rattle.text.specs.Buffered.{writer_buffer, writer_contents}
 use Rattle.std.specs.Io.KnownBytes.{append_known}
 use Rattle.replay.specs.Words.{Output, got}
 use Rattle.replay.proofs.ReplayEndLaws.{both_same, out_both, replay_ending}

@@ -1,7 +1,7 @@
 -- What is kept, and what the lines to come ask, are all that is asked.
 use Rattle.std.proofs.Common.{ℕ, List, [], Result}
 use Rattle.replay.specs.Words.{Command, script_left, IsReader, TcFault, kept_requests}
-use Rattle.line_reader.specs.LineReader.{most_lines}
+use Rattle.text.specs.LineReader.{most_lines}
 use Rattle.replay.proofs.KeepLaws.{Goes}
 use Rattle.replay.proofs.script_reader.keep_lines.Given as goal
 

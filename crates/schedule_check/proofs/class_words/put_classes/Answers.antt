@@ -2,7 +2,7 @@ use Rattle.std.proofs.lemmas.List.{at_drop_more}
 use Rattle.std.proofs.lemmas.Result.{err_from_is_err_and}
 use Rattle.std.specs.List.{flat_map}
 use Rattle.schedule_check.specs.Words.{class_word}
-use Rattle.octet_writer.proofs.Fronts.{sent_more, sent_exit}
+use Rattle.text.proofs.Fronts.{sent_more, sent_exit}
 use Rattle.schedule_check.proofs.class_words.put_classes.Goals as goal
 
 pub returns-in_err-put_class : goal.returns-in_err-put_class

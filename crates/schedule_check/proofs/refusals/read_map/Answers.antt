@@ -1,9 +1,9 @@
 use Rattle.std.proofs.Common.{◌≡◌, ◌≤◌, ℕ, List, ◌∙◌, ◌+◌, [], refl, sym, ap, rules, arith, true, false, length, max, None, Some}
 use Rattle.std.specs.Prelude.{nat_le}
-use Rattle.words.specs.WordsLeft.{words_left}
-use Rattle.words.specs.Numbers.{number_in}
+use Rattle.text.specs.WordsLeft.{words_left}
+use Rattle.text.specs.Numbers.{number_in}
 use Rattle.wire_time.specs.declared.TheConstants.{PRIORITIES}
-use Rattle.class_map.specs.Map.{map_of}
+use Rattle.abstract_port.specs.Map.{map_of}
 use Rattle.schedule_check.specs.Refusals.{map_if_good, map_on}
 use Rattle.schedule_check.proofs.MapLaws.{map_end, map_full, map_more, map_wrong}
 use Rattle.schedule_check.proofs.refusals.read_map.Goals as goal

@@ -1,5 +1,5 @@
 use Rattle.std.proofs.Common.{◌≡◌, ◌≤◌, length}
-use Rattle.words.specs.WordsLeft.{words_left}
+use Rattle.text.specs.WordsLeft.{words_left}
 use Rattle.schedule_check.specs.Refusals.{map_in, map_on}
 use Rattle.schedule_check.proofs.refusals.read_map.Given as goal
 

@@ -1,6 +1,6 @@
 use Rattle.std.proofs.Common.{◌≡◌, ◌∙◌, ap, refl}
 use Rattle.std.proofs.lemmas.Result.{err_from_is_err_and}
-use Rattle.octet_writer.proofs.Fronts.{sent_none, sent_more, sent_exit, sent_last}
+use Rattle.text.proofs.Fronts.{sent_none, sent_more, sent_exit, sent_last}
 use Rattle.schedule_check.specs.Refusals.{map_after}
 use Rattle.schedule_check.specs.Words.{plan_asked, Plan, class_count, classes_apart}
 use Rattle.schedule_check.proofs.ChangeLaws.{told_parts}

@@ -2,7 +2,7 @@ use Rattle.std.proofs.Common.{refl, codes}
 use Rattle.std.proofs.lemmas.Result.{err_from_is_err_and}
 use Rattle.std.specs.List.{flat_map}
 use Rattle.schedule_check.specs.Words.{class_word}
-use Rattle.octet_writer.proofs.Fronts.{sent_none, sent_more, sent_exit, sent_last}
+use Rattle.text.proofs.Fronts.{sent_none, sent_more, sent_exit, sent_last}
 use Rattle.schedule_check.proofs.schedule_report.put_some.Goals as goal
 
 pub returns-in_err-put : goal.returns-in_err-put

@@ -1,6 +1,6 @@
 use Rattle.std.proofs.Common.{◌≡◌, [], Ok, Err, true, false, refl, ap, ◌∙◌}
 use Rattle.std.proofs.lemmas.Result.{err_from_is_err_and}
-use Rattle.octet_writer.proofs.Fronts.{Appends-nil}
+use Rattle.text.proofs.Fronts.{Appends-nil}
 use Rattle.schedule_check.specs.Words.{words_of, current_number, bad_line, long_line, verdict_lines, is_command}
 use Rattle.job.proofs.LineLaws.{begun, ends, goes_kept, goes_no_further, goes_on, goes_past, goes_wrong, stops_before}
 use Rattle.job.proofs.RunEndLaws.{input_out}

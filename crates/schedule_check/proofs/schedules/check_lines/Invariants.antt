@@ -1,6 +1,6 @@
 use Rattle.std.proofs.Common.{ℕ, List, Result}
 use Rattle.schedule_check.specs.Words.{Command, TcFault, IsReader, script_left, long_line, verdict_lines, Teller, IsTeller}
-use Rattle.line_reader.specs.LineReader.{most_lines}
+use Rattle.text.specs.LineReader.{most_lines}
 use Rattle.job.proofs.LineLaws.{Goes}
 use Rattle.schedule_check.proofs.AlertLaws.{Tells}
 use Rattle.schedule_check.proofs.LineLaws.{checked}

@@ -1,6 +1,6 @@
 use Rattle.std.proofs.Common.{◌≡◌, ap}
 use Rattle.std.proofs.lemmas.Result.{err_from_is_err_and}
-use Rattle.octet_writer.proofs.Fronts.{sent_more, sent_exit, sent_all}
+use Rattle.text.proofs.Fronts.{sent_more, sent_exit, sent_all}
 use Rattle.schedule_check.specs.Words.{classes_sharing, shares_line, sharing_line}
 use Rattle.schedule_check.proofs.OpenLineLaws.{lines_first, lines_more, lines_end}
 use Rattle.schedule_check.proofs.share_lines.put_each.Goals as goal

@@ -2,7 +2,7 @@ use Rattle.std.proofs.Common.{◌++◌, [], codes, refl}
 use Rattle.std.proofs.lemmas.Result.{err_from_is_err_and}
 use Rattle.std.specs.List.{flat_map}
 use Rattle.std.specs.Prelude.{decimal}
-use Rattle.octet_writer.proofs.Fronts.{sent_none, sent_more, sent_exit, sent_last}
+use Rattle.text.proofs.Fronts.{sent_none, sent_more, sent_exit, sent_last}
 use Rattle.schedule_check.specs.Words.{class_word, with_line}
 use Rattle.schedule_check.proofs.SharingLaws.{three_parts}
 use Rattle.schedule_check.proofs.share_lines.put_with.Goals as goal

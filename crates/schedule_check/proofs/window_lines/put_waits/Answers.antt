@@ -1,6 +1,6 @@
 use Rattle.std.proofs.Common.{◌++◌, [], codes, refl}
 use Rattle.std.proofs.lemmas.Result.{err_from_is_err_and}
-use Rattle.octet_writer.proofs.Fronts.{sent_none, sent_more, sent_exit, sent_last}
+use Rattle.text.proofs.Fronts.{sent_none, sent_more, sent_exit, sent_last}
 use Rattle.schedule_check.specs.Words.{given_wait_text, longest_wait_of, wait_text, waits_text}
 use Rattle.schedule_check.proofs.OpenLineLaws.{two_parts}
 use Rattle.schedule_check.proofs.window_lines.put_waits.Goals as goal

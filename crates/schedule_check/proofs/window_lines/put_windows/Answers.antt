@@ -1,5 +1,5 @@
 use Rattle.std.proofs.lemmas.Result.{err_from_is_err_and}
-use Rattle.octet_writer.proofs.Fronts.{sent_more, sent_exit, sent_all}
+use Rattle.text.proofs.Fronts.{sent_more, sent_exit, sent_all}
 use Rattle.schedule_check.specs.Words.{class_line, plan_asked, told_line, waits_text}
 use Rattle.schedule_check.proofs.ChangeLaws.{line_is}
 use Rattle.schedule_check.proofs.OpenLineLaws.{lines_first, lines_more, lines_end}

@@ -1,6 +1,6 @@
 use Rattle.std.proofs.Common.{◌&&◌, ◌-◌, ◌∙◌, ap}
 use Rattle.schedule_check.specs.Words.{opens}
-use Rattle.gate_list.proofs.TableLaws.{opens_both}
+use Rattle.gates.proofs.TableLaws.{opens_both}
 use Rattle.schedule_check.proofs.TurnLaws.{turned_opens}
 use Rattle.schedule_check.proofs.windows.newly_open.Goals as goal
 

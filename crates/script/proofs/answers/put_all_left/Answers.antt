@@ -1,5 +1,5 @@
 use Rattle.std.proofs.lemmas.Result.{err_from_is_err_and}
-use Rattle.octet_writer.proofs.Fronts.{sent_all, sent_exit, sent_more, sent_none}
+use Rattle.text.proofs.Fronts.{sent_all, sent_exit, sent_more, sent_none}
 use Rattle.script.proofs.AlertLaws.{alerted_all, alerted_first, alerted_more, alerted_none, alerting_fault, alerts-class, alerts-over}
 use Rattle.script.proofs.LeftLaws.{left-class, left-over}
 use Rattle.script.proofs.answers.put_all_left.Goals as goal

@@ -1,6 +1,6 @@
 use Rattle.std.proofs.Common.{[], ◌∷◌, Ok, refl, sym, ap}
 use Rattle.std.proofs.lemmas.Bool.{lt-ltb, le-ltb}
-use Rattle.octet_writer.proofs.Fronts.{Appends-nil}
+use Rattle.text.proofs.Fronts.{Appends-nil}
 use Rattle.abstract_port.specs.declared.Answer.TheVariants as Answered
 use Rattle.abstract_port.specs.declared.Event.TheVariants.{Count}
 use Rattle.script.proofs.GivenLaws.{one_unseen}

@@ -3,7 +3,7 @@ use Rattle.std.proofs.lemmas.Result.{err_from_is_err_and}
 use Rattle.std.specs.Prelude.{None, Some, ⊤}
 use Rattle.script.specs.Words.{answers_to, Clock, noted_all}
 use Rattle.abstract_port.specs.declared.Answer.TheVariants as Answered
-use Rattle.octet_writer.proofs.Fronts.{sent_none, sent_more, sent_exit, sent_all}
+use Rattle.text.proofs.Fronts.{sent_none, sent_more, sent_exit, sent_all}
 use Rattle.script.proofs.GivenLaws.{fails}
 use Rattle.script.proofs.OutputLaws.{lines_of_answers}
 use Rattle.script.proofs.ClockLaws.{given_start, start_fewer, start_none, later_still}

@@ -2,7 +2,7 @@ use Rattle.std.proofs.Common.{List, [], ◌∷◌, ℕ, ap, subst}
 use Rattle.std.specs.Io.KnownBytes.{Appends}
 use Rattle.script.specs.Alerts.{Left}
 use Rattle.script.specs.Words.{Writes}
-use Rattle.octet_writer.proofs.Fronts.{Appends-nil}
+use Rattle.text.proofs.Fronts.{Appends-nil}
 use Rattle.script.proofs.AlertLaws.{alerts_same, none_alerted, some_alerted}
 use Rattle.script.proofs.LeftLaws.{none_left, some_left}
 use Rattle.script.proofs.answers.put_left_in.Goals as goal

@@ -1,4 +1,4 @@
-use Rattle.separation.proofs.RunLaws.{keeping}
+use Rattle.abstract_port.proofs.SeparateRunLaws.{keeping}
 use Rattle.script.proofs.OutputLaws.{is_faithful}
 use Rattle.script.proofs.laws.faithful.Goals as goal
 

@@ -1,5 +1,5 @@
 use Rattle.std.proofs.Common.{◌≡◌, Result, Ok, Err, sym, ◌∙◌, subst}
-use Rattle.octet_writer.specs.Buffered.{writer_contents}
+use Rattle.text.specs.Buffered.{writer_contents}
 use Rattle.script.specs.Alerts.{IsWatchedEnding}
 use Rattle.script.specs.Words.{IsEnding, whole_script, Setup}
 use Rattle.script.specs.declared.settings.BadValue.{BadValue}

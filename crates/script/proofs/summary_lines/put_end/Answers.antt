@@ -1,6 +1,6 @@
 use Rattle.std.proofs.Common.{◌≡◌, ◌++◌, List, ℕ, Option, Some, sym, ap, ◌∙◌, subst}
 use Rattle.std.proofs.lemmas.Result.{err_from_is_err_and}
-use Rattle.octet_writer.proofs.Fronts.{sent_none, sent_more, sent_exit, sent_last}
+use Rattle.text.proofs.Fronts.{sent_none, sent_more, sent_exit, sent_last}
 use Rattle.script.specs.Words.{AbstractPort, Observed, Writes, end_lines, left_lines, summary_lines}
 use Rattle.script.proofs.AlertLaws.{alerting_all, alerting_fault}
 use Rattle.script.proofs.LeftLaws.{left-now}

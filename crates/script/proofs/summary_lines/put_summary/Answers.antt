@@ -1,7 +1,7 @@
 use Rattle.std.proofs.Common.{rules, List, ℕ, subst}
 use Rattle.std.proofs.lemmas.Result.{err_from_is_err_and}
-use Rattle.octet_writer.proofs.Fronts.{sent_none, sent_more, sent_exit, sent_last}
-use Rattle.octet_writer.specs.Writes.{Sent}
+use Rattle.text.proofs.Fronts.{sent_none, sent_more, sent_exit, sent_last}
+use Rattle.text.specs.Writes.{Sent}
 use Rattle.script.specs.Words.{AbstractPort}
 use Rattle.script.proofs.LeftLaws.{summary-class, summary-over}
 use Rattle.summary.specs.Lines.{summary_lines, wire_text}

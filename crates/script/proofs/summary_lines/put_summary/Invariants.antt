@@ -1,6 +1,6 @@
 -- What is written is followed by the lines of the classes to come and that of the wire.
 use Rattle.std.proofs.Common.{◌-◌, ◌++◌}
-use Rattle.octet_writer.specs.Writes.{Sent}
+use Rattle.text.specs.Writes.{Sent}
 use Rattle.summary.specs.Lines.{classes_from, summary_lines, wire_text}
 use Rattle.script.proofs.summary_lines.put_summary.Given as goal
 

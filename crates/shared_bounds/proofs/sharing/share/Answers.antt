@@ -1,6 +1,6 @@
 use Rattle.std.proofs.Common.{Some, None, arith}
 use Rattle.std.proofs.lemmas.Bool.{both_ways, false≢true}
-use Rattle.gate_list.specs.Gate.{mask_since}
+use Rattle.gates.specs.Gate.{mask_since}
 use Rattle.shared_bounds.proofs.FlatLaws.{flat_on}
 use Rattle.shared_bounds.proofs.ShareLaws.{none_on, none_shared}
 use Rattle.shared_bounds.proofs.sharing.share.Goals as goal

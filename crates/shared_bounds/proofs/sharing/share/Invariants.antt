@@ -1,5 +1,5 @@
 use Rattle.std.proofs.Common.{◌-◌, None}
-use Rattle.list_position.specs.Position.{IsPlaced}
+use Rattle.jumping.specs.Position.{IsPlaced}
 use Rattle.shared_bounds.proofs.ShareLaws.{NoneShared}
 use Rattle.shared_bounds.proofs.sharing.share.Given as goal
 

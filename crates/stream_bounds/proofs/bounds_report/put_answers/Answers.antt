@@ -1,6 +1,6 @@
 use Rattle.std.proofs.Common.{[], Option, None, true, append-nil, ap, ◌∙◌, refl, sym}
 use Rattle.std.proofs.lemmas.Result.{err_from_is_err_and}
-use Rattle.octet_writer.proofs.Fronts.{sent_all, sent_exit, sent_more, sent_none}
+use Rattle.text.proofs.Fronts.{sent_all, sent_exit, sent_more, sent_none}
 use Rattle.stream_bounds.specs.BoundLines.{bound_lines, change_lines, class_lines, finding_in, first_of, premise_lines}
 use Rattle.stream_bounds.specs.declared.faults.Answered.{Answered}
 use Rattle.stream_bounds.specs.declared.faults.Finding.{Finding}

@@ -1,7 +1,7 @@
 use Rattle.std.proofs.Common.{◌≡◌, Option, Ok, Err, sym, subst}
 use Rattle.abstract_port.specs.AbstractPort.{plan_asked}
 use Rattle.abstract_port.specs.declared.Refused.{Refused}
-use Rattle.gate_list.specs.Gate.{ok_unless, plan_fault}
+use Rattle.gates.specs.Gate.{ok_unless, plan_fault}
 use Rattle.schedule_check.proofs.ChangeLaws.{made_without_fault}
 use Rattle.stream_bounds.specs.TableRead.{TellsChange}
 use Rattle.stream_bounds.proofs.RefusalLaws.{not_refused, refused_for}

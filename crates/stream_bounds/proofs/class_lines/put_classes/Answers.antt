@@ -1,5 +1,5 @@
 use Rattle.std.proofs.lemmas.Result.{err_from_is_err_and}
-use Rattle.octet_writer.proofs.Fronts.{sent_all, sent_exit, sent_more}
+use Rattle.text.proofs.Fronts.{sent_all, sent_exit, sent_more}
 use Rattle.stream_bounds.proofs.LineLaws.{class_end, class_more}
 use Rattle.stream_bounds.proofs.class_lines.put_classes.Goals as goal
 

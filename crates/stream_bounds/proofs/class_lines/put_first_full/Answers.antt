@@ -1,6 +1,6 @@
 use Rattle.std.proofs.Common.{Some, codes, refl}
 use Rattle.std.proofs.lemmas.Result.{err_from_is_err_and}
-use Rattle.octet_writer.proofs.Fronts.{sent_none, sent_more, sent_exit, sent_last}
+use Rattle.text.proofs.Fronts.{sent_none, sent_more, sent_exit, sent_last}
 use Rattle.stream_bounds.specs.BoundLines.{full_end, place_text}
 use Rattle.stream_bounds.proofs.class_lines.put_first_full.Goals as goal
 

@@ -1,5 +1,5 @@
 use Rattle.std.proofs.Common.{◌-◌}
-use Rattle.octet_writer.specs.Writes.{Sent}
+use Rattle.text.specs.Writes.{Sent}
 use Rattle.stream_bounds.specs.BoundLines.{flag_texts}
 use Rattle.stream_bounds.proofs.class_lines.put_flags.Given as goal
 

@@ -1,5 +1,5 @@
 use Rattle.std.proofs.Common.{subst, sym}
-use Rattle.octet_writer.specs.Writes.{Writes}
+use Rattle.text.specs.Writes.{Writes}
 use Rattle.stream_bounds.specs.Faults.{found_text}
 use Rattle.stream_bounds.specs.declared.faults.Finding.{Finding}
 use Rattle.stream_bounds.proofs.faults.put_finding.Goals as goal

@@ -1,6 +1,6 @@
 use Rattle.std.proofs.Common.{codes, refl}
 use Rattle.std.proofs.lemmas.Result.{err_from_is_err_and}
-use Rattle.octet_writer.proofs.Fronts.{sent_none, sent_more, sent_exit, sent_last}
+use Rattle.text.proofs.Fronts.{sent_none, sent_more, sent_exit, sent_last}
 use Rattle.script.specs.Texts.{line_text}
 use Rattle.stream_bounds.specs.Faults.{first_text, schedules_text}
 use Rattle.stream_bounds.proofs.faults.put_schedules.Goals as goal

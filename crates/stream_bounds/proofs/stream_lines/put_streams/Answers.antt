@@ -1,5 +1,5 @@
 use Rattle.std.proofs.lemmas.Result.{err_from_is_err_and}
-use Rattle.octet_writer.proofs.Fronts.{sent_all, sent_exit, sent_more}
+use Rattle.text.proofs.Fronts.{sent_all, sent_exit, sent_more}
 use Rattle.stream_bounds.proofs.LineLaws.{finding_end, found_more, stream_end, told_more}
 use Rattle.stream_bounds.proofs.stream_lines.put_streams.Goals as goal
 

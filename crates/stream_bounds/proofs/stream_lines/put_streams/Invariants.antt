@@ -1,5 +1,5 @@
 use Rattle.std.proofs.Common.{◌≡◌, drop}
-use Rattle.octet_writer.specs.Writes.{Sent}
+use Rattle.text.specs.Writes.{Sent}
 use Rattle.stream_bounds.specs.BoundLines.{bound_lines, finding_in, first_of}
 use Rattle.stream_bounds.proofs.stream_lines.put_streams.Given as goal
 

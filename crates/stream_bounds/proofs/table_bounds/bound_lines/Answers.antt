@@ -1,6 +1,6 @@
 use Rattle.std.proofs.Common.{◌≡◌, Ok, Err, true, false, sym, ap, ◌∙◌, subst}
-use Rattle.words.specs.Words.{words_of}
-use Rattle.line_reader.specs.LineReader.{current_number, script_left}
+use Rattle.text.specs.Words.{words_of}
+use Rattle.text.specs.LineReader.{current_number, script_left}
 use Rattle.schedule_check.specs.Checked.{is_command}
 use Rattle.stream_bounds.specs.BoundLines.{joined}
 use Rattle.stream_bounds.specs.Outcome.{told_if}

@@ -1,10 +1,10 @@
 use Rattle.std.proofs.Common.{ℕ, List, Result}
 use Rattle.abstract_port.specs.declared.Command.{Command}
-use Rattle.line_reader.specs.LineReader.{script_left, most_lines}
+use Rattle.text.specs.LineReader.{script_left, most_lines}
 use Rattle.stream_bounds.proofs.CommandLaws.{IsWritten}
 use Rattle.stream_bounds.proofs.table_bounds.bound_lines.Given as goal
-use Rattle.tc_reader.specs.declared.fault.TcFault.{TcFault}
-use Rattle.tc_reader.specs.Reader.{IsReader}
+use Rattle.port_text.specs.declared.tc_reader.fault.TcFault.{TcFault}
+use Rattle.port_text.specs.Reader.{IsReader}
 
 abbrev pub invariant-lines : goal.invariant-lines
 invariant-lines g l =

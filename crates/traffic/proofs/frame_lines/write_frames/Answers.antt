@@ -1,5 +1,5 @@
 use Rattle.std.proofs.lemmas.Result.{err_from_is_err_and}
-use Rattle.octet_writer.proofs.Fronts.{sent_all, sent_exit, sent_more, sent_none}
+use Rattle.text.proofs.Fronts.{sent_all, sent_exit, sent_more, sent_none}
 use Rattle.traffic.proofs.LineLaws.{next_line, no_lines}
 use Rattle.traffic.proofs.frame_lines.write_frames.Goals as goal
 

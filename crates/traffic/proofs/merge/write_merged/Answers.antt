@@ -1,7 +1,7 @@
 use Rattle.std.proofs.Common.{◌≡◌, ◌-◌, ℕ, List, Err, None, Some, refl, ap, ◌∙◌}
 use Rattle.std.proofs.lemmas.Result.{err_from_is_err_and}
-use Rattle.line_reader.specs.declared.lines.LineFault.TheVariants as Limits
-use Rattle.line_reader.specs.declared.lines.TheConstants.{MAX_LINES}
+use Rattle.text.specs.declared.line_reader.lines.LineFault.TheVariants as Limits
+use Rattle.text.specs.declared.line_reader.lines.TheConstants.{MAX_LINES}
 use Rattle.traffic.specs.Words.{Turn, clock_after, left_of_all, limit_passed, line_count, script_fault}
 use Rattle.traffic.proofs.MergeLaws.{begun, end_short, ends, goes_on, line_short, starves, stays, stops}
 use Rattle.traffic.proofs.merge.write_merged.Goals as goal

@@ -1,5 +1,5 @@
 use Rattle.std.proofs.Common.{◌-◌, None}
-use Rattle.line_reader.specs.declared.lines.TheConstants.{MAX_LINES}
+use Rattle.text.specs.declared.line_reader.lines.TheConstants.{MAX_LINES}
 use Rattle.traffic.specs.Words.{IsRoomLeft, IsTournament, script_left, most_lines, left_of_all, line_count}
 use Rattle.traffic.proofs.MergeLaws.{Reaches}
 use Rattle.traffic.proofs.merge.write_merged.Given as goal

@@ -1,5 +1,5 @@
 use Rattle.std.proofs.Common.{◌≡◌, ◌≤◌, ◌+◌, None, length}
-use Rattle.line_reader.specs.declared.lines.TheConstants.{MAX_LINES}
+use Rattle.text.specs.declared.line_reader.lines.TheConstants.{MAX_LINES}
 use Rattle.traffic.specs.Words.{IsTournament, left_of_all, line_count}
 use Rattle.traffic.proofs.room.count_lines.Given as goal
 

@@ -1,5 +1,5 @@
 use Rattle.std.proofs.Common.{◌≤◌, ◌-◌, ◌^◌, None}
-use Rattle.list_position.specs.Position.{StoodBy}
+use Rattle.jumping.specs.Position.{StoodBy}
 use Rattle.delay_bounds.specs.Walk.{may_by}
 use Rattle.window_bounds.specs.Slots.{IsFreeBehind}
 use Rattle.window_bounds.proofs.late_run.free_behind.Given as goal

@@ -1,5 +1,5 @@
 use Rattle.std.proofs.Common.{◌≡◌, ◌<◌, ◌≤◌, ◌+◌, ◌^◌, All, List, None}
-use Rattle.list_position.specs.Position.{StoodBy}
+use Rattle.jumping.specs.Position.{StoodBy}
 use Rattle.delay_bounds.specs.Walk.{may_by}
 use Rattle.window_bounds.specs.Beats.{AreAtBy, IsBeat}
 use Rattle.window_bounds.specs.Slots.{HasSent, IsFreeBehind}

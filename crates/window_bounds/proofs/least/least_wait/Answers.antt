@@ -1,7 +1,7 @@
 use Rattle.std.proofs.Common.{◌≡◌, ◌<◌, ◌≤◌, ◌+◌, ◌-◌, ◌*◌, ◌/◌, ◌%◌, min, ◌^◌, ℕ, zero, suc, sym, ap, ◌∙◌, subst, arith}
 use Rattle.std.proofs.Math.Nat.{div-add-mod, mod-lt}
-use Rattle.gate_list.specs.Gate.{in_ps}
-use Rattle.separation.specs.Served.{IsFirst}
+use Rattle.gates.specs.Gate.{in_ps}
+use Rattle.abstract_port.specs.Served.{IsFirst}
 use Rattle.delay_bounds.specs.Walk.{may_by}
 use Rattle.window_bounds.specs.Flows.{periodic_of}
 use Rattle.window_bounds.specs.declared.JitteredFlow.{JitteredFlow}

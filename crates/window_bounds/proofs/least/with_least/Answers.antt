@@ -3,7 +3,7 @@ use Rattle.std.proofs.lemmas.Bool.{cases_lt}
 use Rattle.std.proofs.lemmas.List.{length-append}
 use Rattle.std.proofs.Math.ListN.{get_or-append}
 use Rattle.std.proofs.Math.Seq.{get_or-append_seam}
-use Rattle.gate_list.specs.Gate.{in_ps}
+use Rattle.gates.specs.Gate.{in_ps}
 use Rattle.delay_bounds.specs.Walk.{may_by}
 use Rattle.delay_bounds.specs.declared.Bound.{Bound}
 use Rattle.window_bounds.specs.Flows.{periodic_of}

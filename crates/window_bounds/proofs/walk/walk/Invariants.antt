@@ -1,6 +1,6 @@
 use Rattle.std.proofs.Common.{◌≡◌, ◌-◌, ℕ, None, length}
 use Rattle.std.specs.Prelude.{IfSome}
-use Rattle.list_position.specs.Position.{StoodBy}
+use Rattle.jumping.specs.Position.{StoodBy}
 use Rattle.delay_bounds.specs.Walk.{may_by}
 use Rattle.window_bounds.specs.Walk.{IsBelow, IsMarked, IsWalkedTo}
 use Rattle.window_bounds.proofs.walk.walk.Given as goal

@@ -1,7 +1,7 @@
 use Rattle.std.proofs.Common.{ap, sym, ◌∙◌, le_refl}
 use Rattle.jumping.specs.Words.{gates, Clocked, with_command}
-use Rattle.list_config.specs.Current.{deletion_at}
-use Rattle.accepted_commands.proofs.CommandLaws.{announced_history, announced_later, lead_none}
+use Rattle.gates.specs.Current.{deletion_at}
+use Rattle.jumping.proofs.CommandLaws.{announced_history, announced_later, lead_none}
 use Rattle.jumping.proofs.jumping_gates.JumpingGates.delete.Goals as goal
 
 pub returns-clause-hindsight : goal.returns-clause-hindsight

@@ -2,7 +2,7 @@ use Rattle.std.proofs.Common.{◌+◌, ◌<◌, ◌≤◌, ℕ, Option, IfSome, 
 use Rattle.std.proofs.lemmas.Bool.{false≢true}
 use Rattle.std.specs.Option.{ForSome}
 use Rattle.jumping.specs.Words.{kept, plan_of, Clocked, entry_count, IsGateEvent, Commands, history_of, Stands, edge_at, shown_by, Resumes, NothingComes, OneEntryComes}
-use Rattle.accepted_commands.proofs.CommandLaws.{current_of, same_commands, settled_history}
+use Rattle.jumping.proofs.CommandLaws.{current_of, same_commands, settled_history}
 use Rattle.jumping.proofs.QuietLaws.{few_placed}
 use Rattle.jumping.proofs.NearLaws.{alone_by, begins_at_most, edge_ahead, none_by, resumes_settled, still_stands}
 use Rattle.jumping.proofs.jumping_gates.JumpingGates.move_to.Goals as goal

@@ -1,7 +1,7 @@
 use Rattle.std.proofs.Common.{[], ℕ, ◌+◌, ◌≤◌, Option, false, ap, refl, subst, sym, ◌∙◌}
 use Rattle.std.specs.Option.{ForSome}
 use Rattle.jumping.specs.Words.{opens, open_through, cons_some, Clocked}
-use Rattle.accepted_commands.proofs.CommandLaws.{open_answer, shut_ahead}
+use Rattle.jumping.proofs.CommandLaws.{open_answer, shut_ahead}
 use Rattle.jumping.proofs.NearLaws.{open_still}
 use Rattle.jumping.proofs.jumping_gates.JumpingGates.stays_open.Goals as goal
 

@@ -1,7 +1,7 @@
 use Rattle.std.proofs.Common.{◌<◌, ◌≤◌, None, sym, ◌∙◌, subst}
 use Rattle.jumping.specs.Words.{mask_in, mask_of, IsFlat, ListedLeg, Listed, lent_rest, stretch_of, stretches_ahead, Searched}
 use Rattle.std.specs.Option.{ForSome}
-use Rattle.list_position.proofs.PositionLaws.{flat_held, placed_hold}
+use Rattle.jumping.proofs.PositionLaws.{flat_held, placed_hold}
 use Rattle.jumping.proofs.search.ListSearch.in_hold.Goals as goal
 
 pub returns : goal.returns

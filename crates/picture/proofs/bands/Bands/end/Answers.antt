@@ -1,5 +1,5 @@
 use Rattle.std.proofs.Common.{refl, ◌∙◌, rules, arith}
-use Rattle.gate_list.proofs.TableLaws.{opens_none}
+use Rattle.gates.proofs.TableLaws.{opens_none}
 use Rattle.picture.proofs.DrawLaws.{up_to_within}
 use Rattle.picture.proofs.bands.Bands.end.Goals as goal
 

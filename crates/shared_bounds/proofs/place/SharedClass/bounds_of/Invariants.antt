@@ -1,5 +1,5 @@
 use Rattle.std.proofs.Common.{◌+◌, ◌-◌, ◌*◌, ◌≤◌, ℕ}
-use Rattle.gate_list.specs.Gate.{in_ps}
+use Rattle.gates.specs.Gate.{in_ps}
 use Rattle.shared_bounds.specs.Busy.{IsRead}
 use Rattle.shared_bounds.proofs.WalkLaws.{IsWalked}
 use Rattle.shared_bounds.proofs.place.SharedClass.bounds_of.Given as goal

@@ -1,6 +1,6 @@
 use Rattle.std.proofs.Common.{◌≡◌, false, Some, None, inl, inr, sym, ◌∙◌, subst, arith}
 use Rattle.std.proofs.lemmas.Bool.{cases_lt}
-use Rattle.gate_list.specs.Gate.{mask_since}
+use Rattle.gates.specs.Gate.{mask_since}
 use Rattle.delay_bounds.proofs.FitLaws.{later_than}
 use Rattle.shared_bounds.specs.Place.{blocking_of, opening_of, own_of}
 use Rattle.shared_bounds.proofs.FlatLaws.{flat_on, none_opens}

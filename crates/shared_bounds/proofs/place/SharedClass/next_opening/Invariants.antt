@@ -1,5 +1,5 @@
 use Rattle.std.proofs.Common.{◌≡◌, ◌<◌, ◌≤◌, ◌-◌, ℕ, None, false}
-use Rattle.list_position.specs.Position.{IsPlaced}
+use Rattle.jumping.specs.Position.{IsPlaced}
 use Rattle.shared_bounds.specs.Place.{opening_of}
 use Rattle.shared_bounds.proofs.place.SharedClass.next_opening.Given as goal
 

@@ -1,6 +1,6 @@
 use Rattle.std.proofs.Common.{◌≡◌, ◌-◌, ℕ, true, Some, None, inl, inr, refl, sym, ◌∙◌, subst, arith, le_refl}
-use Rattle.gate_list.specs.Gate.{mask_since}
-use Rattle.gate_list.proofs.OpenLaws.{open_within}
+use Rattle.gates.specs.Gate.{mask_since}
+use Rattle.gates.proofs.OpenLaws.{open_within}
 use Rattle.delay_bounds.specs.Walk.{may_by}
 use Rattle.delay_bounds.proofs.FitLaws.{later_than}
 use Rattle.shared_bounds.proofs.FlatLaws.{flat_on, stays_on}

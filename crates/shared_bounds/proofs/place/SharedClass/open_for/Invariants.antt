@@ -1,6 +1,6 @@
 use Rattle.std.proofs.Common.{◌≡◌, ◌≤◌, ◌-◌, ◌+◌, None, true}
 use Rattle.delay_bounds.specs.Walk.{may_by}
-use Rattle.list_position.specs.Position.{IsPlaced}
+use Rattle.jumping.specs.Position.{IsPlaced}
 use Rattle.shared_bounds.proofs.place.SharedClass.open_for.Given as goal
 
 abbrev pub invariant-loop-at : goal.invariant-loop-at

@@ -1,5 +1,5 @@
 use Rattle.std.proofs.Common.{◌≡◌, ◌<◌, ◌≤◌, ℕ, Some, None, subst}
-use Rattle.gate_list.specs.Gate.{mask_since}
+use Rattle.gates.specs.Gate.{mask_since}
 use Rattle.shared_bounds.proofs.FlatLaws.{flat_on}
 use Rattle.shared_bounds.proofs.place.SharedClass.same_until.Goals as goal
 

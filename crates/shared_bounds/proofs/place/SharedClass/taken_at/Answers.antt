@@ -1,6 +1,6 @@
 use Rattle.std.proofs.Common.{◌∙◌, ap}
 use Rattle.delay_bounds.specs.Bounds.{first_fit}
-use Rattle.gate_list.specs.Gate.{in_ps}
+use Rattle.gates.specs.Gate.{in_ps}
 use Rattle.shared_bounds.specs.Place.{may_of}
 use Rattle.shared_bounds.proofs.OpeningLaws.{taken_of}
 use Rattle.shared_bounds.proofs.place.SharedClass.taken_at.Goals as goal

@@ -1,5 +1,0 @@
-use Rattle.std.proofs.Common.{refl}
-use Rattle.accepted_commands.proofs.command.AcceptedList.go_on.Goals as goal
-
-pub go_on-requires-clause-sound : goal.go_on-requires-clause-sound
-go_on-requires-clause-sound c = c.requires.usable.planned c.args.self.now.schedule refl

@@ -1,8 +1,0 @@
-use Rattle.std.proofs.Common.{drop}
-use Rattle.std.specs.List.{flat_map}
-use Rattle.answer_text.specs.Reports.{ranges_text, range_text}
-use Rattle.octet_writer.specs.Writes.{Sent}
-use Rattle.answer_text.proofs.reports.put_ranges.Given as goal
-
-abbrev pub invariant-loop-class : goal.invariant-loop-class
-invariant-loop-class g l = Sent (g.W.Write.contents l.fn.writer) (g.W.Write.contents l.writer) (ranges_text l.queues) (flat_map range_text (drop l.class l.queues))

@@ -1,4 +1,0 @@
-pub mod Part
-pub mod Names
-pub mod Reports
-pub mod Lines

@@ -1,0 +1,13 @@
+pub mod Cycles
+pub mod FlowArrivals
+pub mod LateClaim
+pub mod Network
+pub mod NetworkClaim
+pub mod NetworkRuns
+pub mod OtherClasses
+pub mod Priority
+pub mod Promise
+pub mod Runs
+pub mod SharedClaim
+pub mod SharedPremises
+pub mod WindowsReached

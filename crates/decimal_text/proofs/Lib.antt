@@ -1,3 +1,0 @@
-mod Decimal
-mod FrontDigits
-pub mod PlacedLaws

@@ -1,9 +1,0 @@
-use Rattle.std.proofs.Common.{sym, arith}
-use Rattle.decimal_text.proofs.Decimal.{eight_after}
-use Rattle.decimal_text.proofs.PlacedLaws.{Placed-is, Placed-then}
-use Rattle.decimal_text.proofs.numbers.put_wide.Goals as goal
-
-pub returns-clause-text : goal.returns-clause-text
-returns-clause-text c =
-    Placed-is (sym (eight_after c.args.front c.args.eight c.requires.some c.requires.eight (omega (arith, c.requires.front, c.requires.eight))))
-    (Placed-then c.put_kept-middle.ensures.text c.put_eight.ensures)

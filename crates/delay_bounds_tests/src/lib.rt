@@ -1,5 +1,0 @@
-//! A test of `delay_bounds`, where memory is refused. What it answers is seen by rows of the program.
-#![tactic(auto)]
-
-#[cfg(test)]
-mod tests;

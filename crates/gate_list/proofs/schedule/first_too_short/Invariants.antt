@@ -1,6 +1,0 @@
-use Rattle.std.proofs.Common.{◌≡◌, drop}
-use Rattle.gate_list.specs.Gate.{first_shorter}
-use Rattle.gate_list.proofs.schedule.first_too_short.Given as goal
-
-abbrev pub invariant-loop-i : goal.invariant-loop-i
-invariant-loop-i l = first_shorter l.least l.i (drop l.i l.entries) ≡ first_shorter l.least 0 l.entries

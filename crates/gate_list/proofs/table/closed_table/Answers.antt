@@ -1,8 +1,0 @@
-use Rattle.gate_list.proofs.TableLaws.{closed_stays, closed_within}
-use Rattle.gate_list.proofs.table.closed_table.Goals as goal
-
-pub returns-clause-stays : goal.returns-clause-stays
-returns-clause-stays c = closed_stays
-
-pub returns-clause-within : goal.returns-clause-within
-returns-clause-within c = closed_within

@@ -1,0 +1,21 @@
+pub mod ApartLaws
+pub mod ChoiceLaws
+pub mod ChooseLaws
+pub mod CommandLaws
+pub mod EventLaws
+pub mod FirstLaws
+pub mod GateLaws
+pub mod HeadLaws
+pub mod HistoryLaws
+pub mod IdleLaws
+pub mod LongestLaws
+pub mod OpenLaws
+pub mod PhaseLaws
+pub mod RowLaws
+pub mod StayLaws
+pub mod StepLaws
+pub mod StretchLaws
+pub mod TableLaws
+pub mod WalkLaws
+pub mod WatchLaws
+mod Worked

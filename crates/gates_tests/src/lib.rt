@@ -1,9 +1,0 @@
-//! Tests of `gate_list`, `stepped` and `jumping`, by their public calls.
-#![tactic(auto)]
-
-#[cfg(test)]
-mod far;
-#[cfg(test)]
-mod lists;
-#[cfg(test)]
-mod worked;

@@ -1,6 +1,0 @@
-mod ClaimLaws
-mod PairCounts
-mod LateStarts
-mod ReachedLaws
-mod FrameLines
-mod ReachedRuns

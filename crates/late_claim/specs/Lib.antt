@@ -1,2 +1,0 @@
-pub mod LateClaim
-pub mod WindowsReached

@@ -1,3 +1,0 @@
-mod FeedLaws
-mod PhysicalLineLaws
-pub mod RunLaws

@@ -1,0 +1,10 @@
+mod CommandLaws
+mod DeviceLaws
+mod EndLaws
+pub mod FirstLaws
+mod LineLaws
+mod NameLaws
+mod ScheduleLineLaws
+mod TakeLaws
+mod ViaLaws
+mod WordLaws

@@ -1,0 +1,13 @@
+use Rattle.std.proofs.Common.{sym, ap, ◌∙◌}
+use Rattle.network.specs.Network.{setting_line_of}
+use Rattle.network.proofs.FirstLaws.{first_here, first_more, first_none}
+use Rattle.network.proofs.network_table.lookups.setting_line.Goals as goal
+
+pub returns-in-Some : goal.returns-in-Some
+returns-in-Some c = first_here (setting_line_of c.args.port) c.args.settings.now c.loop-setting.setting-index _ c.in-Some.line _ c.loop-setting-test.true (ap (setting_line_of c.args.port) (sym c.setting-item.is) ∙ (sym c.setting_line_of.ensures ∙ c.in-Some.is)) c.loop-setting.invariant
+
+pub loop-setting-preserved : goal.loop-setting-preserved
+loop-setting-preserved c = first_more (setting_line_of c.args.port) c.args.settings.now c.loop-setting.setting-index _ _ c.loop-setting-test.true (ap (setting_line_of c.args.port) (sym c.setting-item.is) ∙ (sym c.setting_line_of.ensures ∙ c.in_default.is)) c.loop-setting.invariant
+
+pub returns : goal.returns
+returns c = first_none (setting_line_of c.args.port) c.args.settings.now c.loop-setting.setting-index _ c.loop-setting-test.false c.loop-setting.invariant

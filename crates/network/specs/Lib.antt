@@ -1,0 +1,10 @@
+pub mod Device
+pub mod Faults
+pub mod Kept
+pub mod Lines
+pub mod Names
+pub mod Network
+pub mod Reads
+pub mod ScheduleFaults
+pub mod Schedules
+pub mod ViaLaw

@@ -1,6 +1,0 @@
-use Rattle.std.proofs.Common.{◌≡◌, drop}
-use Rattle.network_table.specs.Lines.{via_from, via_in}
-use Rattle.network_table.proofs.via.via_in.Given as goal
-
-abbrev pub invariant-loop-place : goal.invariant-loop-place
-invariant-loop-place l = via_from l.place l.behind_blank (drop l.place l.octets) ≡ via_in l.octets

@@ -1,7 +1,0 @@
-pub mod Names
-pub mod Kept
-pub mod Lines
-pub mod Network
-pub mod Reads
-pub mod ViaLaw
-pub mod Faults

@@ -1,7 +1,0 @@
-use Rattle.std.proofs.Common.{arith}
-use Rattle.std.proofs.lemmas.Grind.{common_steps}
-use Rattle.octet_store.proofs.RingLaws.{length-kept_of}
-use Rattle.octet_store.proofs.class_octets.ClassOctets.has_room.Goals as goal
-
-pub returns : goal.returns
-returns g c = rw (← c.self.view_is, length-kept_of) (grind (arith, common_steps))

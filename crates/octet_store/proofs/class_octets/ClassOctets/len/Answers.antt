@@ -1,7 +1,0 @@
-use Rattle.std.proofs.Common.{sym, ap, ◌∙◌, length}
-use Rattle.octet_store.specs.OctetQueue.{held}
-use Rattle.octet_store.proofs.RingLaws.{length-kept_of}
-use Rattle.octet_store.proofs.class_octets.ClassOctets.len.Goals as goal
-
-pub returns : goal.returns
-returns g c = c.len.ensures.len ∙ sym (length-kept_of c.self.inside.lengths.items (held c.self.inside.octets)) ∙ ap (λ w. length w.frames) c.self.view_is

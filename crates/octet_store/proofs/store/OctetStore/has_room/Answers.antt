@@ -1,5 +1,0 @@
-use Rattle.std.proofs.Common.{rules}
-use Rattle.octet_store.proofs.store.OctetStore.has_room.Goals as goal
-
-pub has_room_in-requires : goal.has_room_in-requires
-has_room_in-requires g c = (search rules, c.requires)

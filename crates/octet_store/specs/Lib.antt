@@ -1,4 +1,0 @@
-pub mod Stored
-pub mod ClassOctets
-pub mod Laid
-pub mod OctetQueue

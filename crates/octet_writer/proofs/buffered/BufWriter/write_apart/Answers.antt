@@ -1,6 +1,0 @@
-use Rattle.std.proofs.Common.{sym, subst, le_refl, take_all}
-use Rattle.std.specs.Io.KnownBytes.{Appends}
-use Rattle.octet_writer.proofs.buffered.BufWriter.write_apart.Goals as goal
-
-pub returns-clause-bytes : goal.returns-clause-bytes
-returns-clause-bytes g c = subst (Appends _ _) (sym (take_all _ c.args.octets.now (le_refl _))) c.in_ok-keep_back.ensures.ok

@@ -1,6 +1,0 @@
--- A failed write appends nothing.
-use Rattle.std.specs.Io.KnownBytes.{Keeps}
-use Rattle.octet_writer.proofs.output.write_once.Given as goal
-
-abbrev pub invariant-loop : goal.invariant-loop
-invariant-loop g l = Keeps (g.W.Write.contents l.fn.writer) (g.W.Write.contents l.writer)

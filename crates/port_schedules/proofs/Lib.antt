@@ -1,3 +1,0 @@
-mod CommandLaws
-mod DeviceLaws
-mod LineLaws

@@ -1,0 +1,4 @@
+use Rattle.port_tests.proofs.scenarios.random.rows_tell_open_time.Given as goal
+
+abbrev pub invariant-loop-i : goal.invariant-loop-i
+invariant-loop-i g l = g.G.Gates.is_sound l.gates

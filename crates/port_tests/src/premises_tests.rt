@@ -1,0 +1,4 @@
+//! Tests of `premises`, by its public calls. They stand in a crate of their own, so that `premises` is proved once and
+//! not again with them.
+#[cfg(test)]
+mod tests;

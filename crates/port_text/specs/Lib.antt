@@ -1,0 +1,17 @@
+pub mod AnswerLines
+pub mod AnswerNames
+pub mod Capped
+pub mod Cursor
+pub mod Ends
+pub mod Grammar
+pub mod Heads
+pub mod Options
+pub mod Part
+pub mod Reader
+pub mod Reads
+pub mod Reports
+pub mod Seen
+pub mod TcLines
+pub mod TcNames
+pub mod Values
+pub mod Words

@@ -1,4 +1,0 @@
-pub mod Kept
-pub mod FrameEvents
-pub mod FlowArrivals
-pub mod RunsExist

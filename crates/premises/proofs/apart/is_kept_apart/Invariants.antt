@@ -1,6 +1,0 @@
-use Rattle.abstract_port.specs.Sound.{IsSoundPort}
-use Rattle.premises.proofs.Kept.{RunsApart}
-use Rattle.premises.proofs.apart.is_kept_apart.Given as goal
-
-abbrev pub invariant-loop-event : goal.invariant-loop-event
-invariant-loop-event g l = IsSoundPort l.port.port × RunsApart l.class l.event-index l.events l.initial.port.port l.port.port l.apart

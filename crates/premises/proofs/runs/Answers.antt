@@ -1,7 +1,0 @@
-use Rattle.std.proofs.Common.{arith}
-use Rattle.premises.proofs.runs.Goals as goal
-
-pub returns-clause-lead : goal.returns-clause-lead
-returns-clause-lead g c f sdu here fits =
-    let least = c.now.ensures.sound.mtu in
-    c.lead_law.ensures _ _ f sdu (omega arith) here fits

@@ -1,2 +1,0 @@
-pub mod FlowArrivals
-pub mod Runs

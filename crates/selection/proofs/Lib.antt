@@ -1,2 +1,0 @@
-pub mod ChooseLaws
-pub mod WatchLaws

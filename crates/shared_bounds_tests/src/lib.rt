@@ -1,6 +1,0 @@
-//! Tests of `shared_bounds`, by its public call. The expected values are those of a model that tries all moments, and
-//! shares no code with it.
-#![tactic(auto)]
-
-#[cfg(test)]
-mod tests;

@@ -1,5 +1,0 @@
-mod OtherLaws
-mod ClaimLaws
-mod RunLaws
-mod WindowBounds
-mod Example

@@ -1,3 +1,0 @@
-pub mod SharedClaim
-pub mod OtherClasses
-pub mod SharedPremises

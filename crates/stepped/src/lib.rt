@@ -1,8 +1,0 @@
-//! The gates of a port by a cycle timer and a walk of the list in force, which go from boundary to boundary.
-//!
-//! The contract of `Stepped` is that of the trait `Gates` in `list_config`.
-#![tactic(auto)]
-
-mod stepped;
-
-pub use stepped::Stepped;

@@ -1,6 +1,0 @@
-//! Tests of `summary`, by its public calls. They stand in a crate of their own, so that `summary` is proved once and
-//! not again with them.
-#![tactic(auto)]
-
-#[cfg(test)]
-mod tests;

@@ -1,8 +1,0 @@
-use Rattle.tc_reader.proofs.ReadLaws.{a_reader, same_readers}
-use Rattle.tc_reader.proofs.laws.one_reader.Goals as goal
-
-pub returns-clause-some : goal.returns-clause-some
-returns-clause-some c = a_reader
-
-pub returns-clause-one : goal.returns-clause-one
-returns-clause-one c = same_readers

@@ -1,0 +1,14 @@
+pub mod Buffered
+pub mod Digits
+pub mod Joined
+pub mod LineEnds
+pub mod LineReader
+pub mod Numbers
+pub mod PhysicalLines
+pub mod Placed
+pub mod Script
+pub mod Source
+pub mod Times
+pub mod Words
+pub mod WordsLeft
+pub mod Writes

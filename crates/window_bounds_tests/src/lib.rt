@@ -1,6 +1,0 @@
-//! Tests of `window_bounds`, by its public call. The expected values are those of a model that goes from picosecond to
-//! picosecond by the definitions, and shares no code with it.
-#![tactic(auto)]
-
-#[cfg(test)]
-mod tests;

@@ -1,5 +1,0 @@
-use Rattle.words.proofs.LaneLaws.{others}
-use Rattle.words.proofs.numbers.others_in.Goals as goal
-
-pub returns : goal.returns
-returns c = others c.args.octets c.fits-octets.0 c.fits-octets.1

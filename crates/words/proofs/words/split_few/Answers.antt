@@ -1,9 +1,0 @@
-use Rattle.std.proofs.Common.{subst}
-use Rattle.words.specs.Numbers.{FirstIsNumber}
-use Rattle.words.specs.Words.{words_of}
-use Rattle.words.proofs.words.split_few.Goals as goal
-
-pub returns-clause-first : goal.returns-clause-first
-returns-clause-first c =
-    let found = c.in_ok-number in
-    subst (λ words. FirstIsNumber words found.number (words_of found.rest.now)) c.past_space.ensures.words found.ensures.first

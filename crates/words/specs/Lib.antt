@@ -1,4 +1,0 @@
-pub mod Words
-pub mod WordsLeft
-pub mod Numbers
-pub mod Joined
