@@ -8,7 +8,7 @@ const MOST_NAMED = 3; // frames that one reason names
 // The least of moments, of which some may be null: for ever.
 const least = (...moments) => moments.reduce((one, other) => (one === null || (other !== null && other < one) ? other : one));
 
-// 1. The gates of a run, as crates/list_config/specs/History.antt defines them
+// 1. The gates of a run, as crates/gates/specs/History.antt defines them
 
 const FIELDS = { "base-time": "base", "cycle-time": "cycle", "cycle-time-extension": "extension" };
 
