@@ -47,7 +47,8 @@ impl Model for ClassMap {
 
     ghost view = { λ m. record { num_tc = m.num_tc; classes = m.classes } };
 
-    ghost invariant = { λ m. (1 ≤ m.num_tc) × (m.num_tc ≤ CLASSES) × All (λ c. c < CLASSES) m.classes };
+    ghost invariant = { λ m. (1 ≤ m.num_tc) × (m.num_tc ≤ CLASSES)
+        × All (λ c. c < CLASSES) m.classes };
 
     ghost inverse = { λ v. record { num_tc = v.num_tc; classes = v.classes } };
 }
@@ -132,7 +133,8 @@ impl Model for Queues {
 
     ghost inverse = { λ v. record { num_tc = length v; ranges = with_no_more v } };
 
-    ghost inverse_ok = { λ q h. Prim.rw (back q.num_tc q.ranges h, back_count q.num_tc q.ranges h) };
+    ghost inverse_ok = { λ q h. Prim.rw
+        (back q.num_tc q.ranges h, back_count q.num_tc q.ranges h) };
 }
 
 /// Whether a range has no queue.
@@ -255,5 +257,6 @@ impl Queues {
 /// Nothing to run: its contract is the law that ranges are accepted exactly where they are one a class, not empty, and
 /// pairwise without a common number.
 pub fn ranges_law()
-    ensures { (num_tc : ℕ) (ranges : List (ℕ × ℕ)) → (queue_fault num_tc ranges ≡ None) ↔ AreRanges num_tc ranges }
+    ensures { (num_tc : ℕ) (ranges : List (ℕ × ℕ)) →
+        (queue_fault num_tc ranges ≡ None) ↔ AreRanges num_tc ranges }
 {}

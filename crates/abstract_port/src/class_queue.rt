@@ -74,7 +74,8 @@ impl<A: Allocator> ClassQueue<A> {
     /// Puts the frame at the end, or gives it back where the queue is full.
     pub fn offer(&mut self, frame: Frame) -> Result<(), Frame>
         ensures fits { IsOk result ↔ (length self.old.frames < self.old.room) }
-        ensures ok { OnOk result (self.new ≡ record self.old { frames = self.old.frames ++ frame ∷ [] }) }
+        ensures ok { OnOk result
+            (self.new ≡ record self.old { frames = self.old.frames ++ frame ∷ [] }) }
         ensures err { IfErr result (λ f. (f ≡ frame) × (self.new ≡ self.old)) }
     {
         self.frames.try_push_back(frame)

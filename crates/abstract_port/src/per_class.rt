@@ -31,7 +31,9 @@ fn two_of<A: Allocator, C: PerClass<A>>(alloc: &A, room: usize) -> Result<(C, C)
 
 /// Four of a thing.
 fn four_of<A: Allocator, C: PerClass<A>>(alloc: &A, room: usize) -> Result<(C, C, C, C), C::Fault>
-    ensures { IfOk result (λ four. (four.0 ≡ C.made room) × (four.1 ≡ C.made room) × (four.2 ≡ C.made room) × (four.3 ≡ C.made room)) }
+    ensures { IfOk result
+        (λ four. (four.0 ≡ C.made room) × (four.1 ≡ C.made room) × (four.2 ≡ C.made room)
+        × (four.3 ≡ C.made room)) }
 {
     let (class_0, class_1) = two_of::<A, C>(alloc, room)?;
     let (class_2, class_3) = two_of::<A, C>(alloc, room)?;

@@ -24,8 +24,10 @@ fn next_of(talkers: &[Talker], counts: &[u128]) -> (u128, usize)
     requires counts { length counts.now ≡ length talkers.now }
     requires few { AreBelow 40 counts.now }
     ensures within { result.1 < length talkers.now }
-    ensures moment { result.0 ≡ comes_at (talker_at talkers.now result.1) (slice_index counts.now result.1) }
-    ensures first { (i : ℕ) → i < length talkers.now → result.0 ≤ comes_at (talker_at talkers.now i) (slice_index counts.now i) }
+    ensures moment { result.0
+        ≡ comes_at (talker_at talkers.now result.1) (slice_index counts.now result.1) }
+    ensures first { (i : ℕ) → i < length talkers.now →
+        result.0 ≤ comes_at (talker_at talkers.now i) (slice_index counts.now i) }
     ensures below { result.0 < 2 ^ 120 }
 {
     let mut first = comes_at(talkers[0], counts[0]);

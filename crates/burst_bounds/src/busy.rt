@@ -12,7 +12,8 @@ pub fn busy_frames(slots: &[u128], moments: &[u128], from: u128, need: u128) -> 
     requires moments { AreBelow 120 moments.now }
     requires from { from ≤ greatest_moment }
     requires need { need ≤ greatest_moment }
-    ensures { MatchOption result (IsBusyUntil need from slots.now moments.now) (IsIdleBehind need from slots.now moments.now) }
+    ensures { MatchOption result (IsBusyUntil need from slots.now moments.now)
+        (IsIdleBehind need from slots.now moments.now) }
 {
     let mut frames = 1;
     while frames < moments.len() && frames <= slots.len() {

@@ -41,7 +41,8 @@ fn reach_of(
     requires from { from ≤ greatest_moment }
     requires need { need ≤ greatest_moment }
     requires repeat { IfSome repeat IsSmall }
-    ensures { MatchOption result (IsBusyUntil need from slots.now moments.now) (IsSeen need from slots.now moments.now repeat) }
+    ensures { MatchOption result (IsBusyUntil need from slots.now moments.now)
+        (IsSeen need from slots.now moments.now repeat) }
 {
     if let Some(frames) = busy_frames(slots, moments, from, need) {
         return Some(Reach::Idle(frames));
@@ -102,8 +103,10 @@ pub fn with_moment(
     requires need { need ≤ greatest_moment }
     requires repeat { IfSome repeat IsSmall }
     ensures seen { IfOk result (IsSeen need from slots.now moments.now repeat) }
-    ensures bounds { IfOk result (λ reach. HasFrames bounds.old from slots.now moments.now (frames_of reach) bounds.new) }
-    ensures why { IfErr result (λ why. (why ≡ Unbound.Long) × IsBusyUntil need from slots.now moments.now) }
+    ensures bounds { IfOk result
+        (λ reach. HasFrames bounds.old from slots.now moments.now (frames_of reach) bounds.new) }
+    ensures why { IfErr result
+        (λ why. (why ≡ Unbound.Long) × IsBusyUntil need from slots.now moments.now) }
 {
     let Some(reach) = reach_of(slots, moments, from, need, repeat) else {
         return Err(Unbound::Long);
@@ -130,8 +133,10 @@ fn fits_more(schedule: &Schedule, first: &Position, class: u8, need: u128, from:
     requires class { class < CLASSES }
     requires need { need ≤ greatest_moment }
     requires from { from ≤ greatest_moment }
-    ensures yes { IsTrue result → (need < from) × (may_by schedule.now class (from - need - 1) need ≡ true) }
-    ensures no { result ≡ false → need < from → may_by schedule.now class (from - need - 1) need ≡ false }
+    ensures yes { IsTrue result →
+        (need < from) × (may_by schedule.now class (from - need - 1) need ≡ true) }
+    ensures no { result ≡ false → need < from →
+        may_by schedule.now class (from - need - 1) need ≡ false }
 {
     if need >= from {
         return false;
@@ -162,8 +167,11 @@ where
     requires moments { AreBelow 120 moments.now }
     requires rises { Rises moments.now }
     requires repeat { IfSome repeat IsSmall }
-    ensures seen { IfOk result (λ _. IsWindowSeen schedule.now class need end moments.now repeat bounds.old bounds.new) }
-    ensures why { IfErr result (λ why. (curve : ℕ → ℕ) → IsRead schedule.now class need curve moments.now repeat → IsUnseen schedule.now class need curve (length moments.now) why) }
+    ensures seen { IfOk result
+        (λ _. IsWindowSeen schedule.now class need end moments.now repeat bounds.old bounds.new) }
+    ensures why { IfErr result
+        (λ why. (curve : ℕ → ℕ) → IsRead schedule.now class need curve moments.now repeat →
+        IsUnseen schedule.now class need curve (length moments.now) why) }
 {
     if !fits_more(schedule, first, class, need, end + 1) {
         return Ok(());
@@ -199,7 +207,8 @@ fn ends_window(schedule: &Schedule, first: &Position, class: u8, end: u128) -> b
     requires first { IsPlaced schedule.now 0 None 0 first.now }
     requires class { class < CLASSES }
     requires end { (0 < end) × (end ≤ greatest_moment) }
-    ensures { IsTrue result ↔ (may_by schedule.now class end 1 ≡ false) × (may_by schedule.now class (end - 1) 1 ≡ true) }
+    ensures { IsTrue result ↔ (may_by schedule.now class end 1 ≡ false)
+        × (may_by schedule.now class (end - 1) 1 ≡ true) }
 {
     !is_slot(schedule, first, class, 1, end) && is_slot(schedule, first, class, 1, end - 1)
 }
@@ -225,8 +234,12 @@ where
     requires moments { AreBelow 120 moments.now }
     requires rises { Rises moments.now }
     requires repeat { IfSome repeat IsSmall }
-    ensures seen { IfOk result (λ _. AreWindowsSeen schedule.now class need moments.now repeat (length schedule.now.entries) bounds.old bounds.new) }
-    ensures why { IfErr result (λ why. (curve : ℕ → ℕ) → IsRead schedule.now class need curve moments.now repeat → IsUnseen schedule.now class need curve (length moments.now) why) }
+    ensures seen { IfOk result
+        (λ _. AreWindowsSeen schedule.now class need moments.now repeat
+        (length schedule.now.entries) bounds.old bounds.new) }
+    ensures why { IfErr result
+        (λ why. (curve : ℕ → ℕ) → IsRead schedule.now class need curve moments.now repeat →
+        IsUnseen schedule.now class need curve (length moments.now) why) }
 {
     let mut visits = Visits::zero();
     let mut end = 1000 * u128::from(schedule.cycle_ns());

@@ -30,7 +30,8 @@ fn shut_at(schedule: &Schedule, first: &Position, class: u8) -> Option<u128>
     requires first { IsPlaced schedule.now 0 None 0 first.now }
     requires class { class < CLASSES }
     ensures { MatchOption result
-        ((i : ℕ) → i < length schedule.now.entries → may_by schedule.now class (prefix schedule.now.entries i) 1 ≡ true)
+        ((i : ℕ) → i < length schedule.now.entries →
+        may_by schedule.now class (prefix schedule.now.entries i) 1 ≡ true)
         (λ t. (may_by schedule.now class t 1 ≡ false) × (t ≤ 2 ^ 52)) }
 {
     let mut visits = Visits::zero();
@@ -112,7 +113,8 @@ const STEP: u128 = 1 << 32;
 fn slots_left(slots: u128, talkers: &[Talker], times: &[u128]) -> Option<u128>
     requires talkers { All IsTalker talkers.now }
     requires times { length times.now ≡ length talkers.now }
-    ensures { MatchOption result (slots < wholes talkers.now times.now) (λ left. left + wholes talkers.now times.now ≡ slots) }
+    ensures { MatchOption result (slots < wholes talkers.now times.now)
+        (λ left. left + wholes talkers.now times.now ≡ slots) }
 {
     let mut left = slots;
     for (i, talker) in talkers.iter().enumerate() {
@@ -130,7 +132,9 @@ fn lengthen(talkers: &[Talker], times: &mut [u128])
     requires talkers { All IsTalker talkers.now }
     requires times { length times.old ≡ length talkers.now }
     ensures count { length times.new ≡ length talkers.now }
-    ensures rests { (i : ℕ) → i < length talkers.now → slice_index times.new i ≡ (slice_index times.old i % (talker_at talkers.now i).period) * 2 ^ 32 }
+    ensures rests { (i : ℕ) → i < length talkers.now →
+        slice_index times.new i
+        ≡ (slice_index times.old i % (talker_at talkers.now i).period) * 2 ^ 32 }
 {
     for (i, talker) in talkers.iter().enumerate() {
         times[i] = (times[i] % talker.period) * STEP;
@@ -160,7 +164,8 @@ fn is_more(share: Share, talkers: &[Talker], times: &mut [u128]) -> bool
     requires talkers { All IsTalker talkers.now }
     requires times { length times.old ≡ length talkers.now }
     requires same { (i : ℕ) → i < length talkers.now → slice_index times.old i ≡ share.time }
-    ensures { IsTrue result → (n : ℕ) × (share.slots * n < periods_in (share.time * n) talkers.now) }
+    ensures { IsTrue result →
+        (n : ℕ) × (share.slots * n < periods_in (share.time * n) talkers.now) }
 {
     let mut slots = share.slots;
     for _i in 0..talkers.len().saturating_mul(3).saturating_add(2) {
@@ -192,7 +197,8 @@ where
     requires class { class < CLASSES }
     requires need { (0 < need) × (need ≤ greatest_moment) }
     requires talkers { All IsTalker talkers.now }
-    ensures more { IfOk result (λ more. IsTrue more → IsOverloaded schedule.now class need talkers.now) }
+    ensures more { IfOk result
+        (λ more. IsTrue more → IsOverloaded schedule.now class need talkers.now) }
     ensures why { IfErr result (IsShareUnknown schedule.now class need) }
 {
     let share = match share_of(schedule, first, class, need) {

@@ -81,7 +81,9 @@ pub fn repeat_of(talkers: &[Talker], cycle: u128, limit: usize) -> Option<Repeat
 fn first_again(slots: &[u128], repeat: Repeat) -> Option<usize>
     requires slots { AreBelow 100 slots.now }
     requires small { IsSmall repeat }
-    ensures { IfSome result (λ i. (i + repeat.frames < length slots.now) × (slice_index slots.now (i + repeat.frames) ≡ slice_index slots.now i + repeat.time)) }
+    ensures { IfSome result
+        (λ i. (i + repeat.frames < length slots.now)
+        × (slice_index slots.now (i + repeat.frames) ≡ slice_index slots.now i + repeat.time)) }
 {
     let mut i = 0;
     while i < slots.len() && repeat.frames < slots.len() - i {
@@ -97,7 +99,8 @@ fn first_again(slots: &[u128], repeat: Repeat) -> Option<usize>
 fn first_behind(moments: &[u128], from: u128, place: usize, slot: u128) -> Option<usize>
     requires moments { AreBelow 120 moments.now }
     requires from { from ≤ greatest_moment }
-    ensures { IfSome result (λ i. (place ≤ i) × (i < length moments.now) × (slot < from + slice_index moments.now i)) }
+    ensures { IfSome result
+        (λ i. (place ≤ i) × (i < length moments.now) × (slot < from + slice_index moments.now i)) }
 {
     let mut i = place;
     while i < moments.len() {

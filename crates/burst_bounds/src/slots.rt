@@ -31,7 +31,8 @@ fn next_fit(
     requires class { class < CLASSES }
     requires from { from ≤ greatest_moment }
     requires within { length ≤ greatest_moment }
-    ensures fit { result ≡ first_fit (may_by schedule.now class) length from (in_ps schedule.now.cycle) }
+    ensures fit { result
+        ≡ first_fit (may_by schedule.now class) length from (in_ps schedule.now.cycle) }
     ensures placed { IfSome result (λ at. IsPlaced schedule.now 0 None at position.new) }
     ensures soon { IfSome result (λ at. (from ≤ at) × (at < from + in_ps schedule.now.cycle)) }
 {
@@ -118,7 +119,8 @@ where
     requires need { need ≤ greatest_moment }
     requires from { from ≤ greatest_moment }
     ensures count { IfOk result (λ slots. length slots.items ≡ count) }
-    ensures slots { IfOk result (λ slots. AreSlots (may_by schedule.now class) need from slots.items) }
+    ensures slots { IfOk result
+        (λ slots. AreSlots (may_by schedule.now class) need from slots.items) }
     ensures below { IfOk result (λ slots. AreBelow 100 slots.items) }
     ensures why { IfErr result (λ why. IsSlotless schedule.now class need from count why) }
 {

@@ -54,7 +54,8 @@ where
     requires need { need ≡ longest_need talkers.now }
     requires repeat { IfSome repeat (IsCommon talkers.now (in_ps schedule.now.cycle)) }
     requires frames { (0 < frames) × (frames < 2 ^ 40) }
-    ensures least { IfOk result (λ b. AreLeast schedule.now class need (curve talkers.now) b.wait b.most) }
+    ensures least { IfOk result
+        (λ b. AreLeast schedule.now class need (curve talkers.now) b.wait b.most) }
     ensures why { IfErr result (IsUnseen schedule.now class need (curve talkers.now) frames) }
 {
     let Ok(moments) = arrivals(alloc, talkers, frames) else {
@@ -116,7 +117,8 @@ where
     requires need { need ≡ longest_need talkers.now }
     requires repeat { IfSome repeat (IsCommon talkers.now (in_ps schedule.now.cycle)) }
     requires most { (0 < most) × (most < 2 ^ 40) }
-    ensures least { IfOk result (λ b. AreLeast schedule.now class need (curve talkers.now) b.wait b.most) }
+    ensures least { IfOk result
+        (λ b. AreLeast schedule.now class need (curve talkers.now) b.wait b.most) }
     ensures why { IfErr result (IsUnseen schedule.now class need (curve talkers.now) most) }
 {
     let mut frames = FEW;
@@ -155,7 +157,9 @@ where
     requires class { class < CLASSES }
     requires some { 0 < length talkers.now }
     requires talkers { All IsTalker talkers.now }
-    ensures least { IfOk result (λ b. AreLeast schedule.now class (longest_need talkers.now) (curve talkers.now) b.wait b.most) }
+    ensures least { IfOk result
+        (λ b. AreLeast schedule.now class (longest_need talkers.now)
+        (curve talkers.now) b.wait b.most) }
     ensures why { IfErr result (IsUnbound schedule.now class talkers.now limit) }
 {
     let _entries = schedule.len();

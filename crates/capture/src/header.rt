@@ -30,7 +30,8 @@ pub(crate) const ETHERNET: u32 = 1;
 
 /// Fills the buffer, or what of it the input has: less only where the input ends.
 fn fill_whole<R: Read>(reader: &mut R, into: &mut [u8]) -> io::Result<usize>
-    ensures octets { IfOk result (λ n. Consumes (R.remaining reader.old) (R.remaining reader.new) (take n into.new)) }
+    ensures octets { IfOk result
+        (λ n. Consumes (R.remaining reader.old) (R.remaining reader.new) (take n into.new)) }
     ensures bound { IfOk result (λ n. n ≤ length into.new) }
     ensures ended { IfOk result (λ n. n < length into.new → IsAtEnd (R.remaining reader.new)) }
 {

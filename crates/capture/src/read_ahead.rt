@@ -94,7 +94,8 @@ impl<A: Allocator> ReadAhead<A> {
     /// Reads once, into all the room there is after what is held.
     pub(crate) fn fill<R: Read>(&mut self, reader: &mut R) -> io::Result<usize>
         requires { self.old.start + length (held self.old) < ROOM }
-        ensures octets { Keeps (prepend_known (held self.old) (R.remaining reader.old)) (prepend_known (held self.new) (R.remaining reader.new)) }
+        ensures octets { Keeps (prepend_known (held self.old) (R.remaining reader.old))
+            (prepend_known (held self.new) (R.remaining reader.new)) }
         ensures more { IfOk result (λ n. length (held self.new) ≡ length (held self.old) + n) }
         ensures ended { IfOk result (λ n. n ≡ 0 → IsAtEnd (R.remaining reader.new)) }
         ensures err { OnErr result (held self.new ≡ held self.old) }
@@ -116,7 +117,8 @@ pub(crate) fn read_behind<R: Read>(
     requires { at < length buffer.old }
     ensures front { take at buffer.new ≡ take at buffer.old }
     ensures octets { MatchResult result
-        (λ n. Consumes (R.remaining reader.old) (R.remaining reader.new) (take n (drop at buffer.new)))
+        (λ n. Consumes (R.remaining reader.old) (R.remaining reader.new)
+        (take n (drop at buffer.new)))
         (λ _. Keeps (R.remaining reader.old) (R.remaining reader.new)) }
     ensures bound { IfOk result (λ n. at + n ≤ length buffer.new) }
     ensures ended { IfOk result (λ n. n ≡ 0 → IsAtEnd (R.remaining reader.new)) }

@@ -43,11 +43,14 @@ fn fetch<R: Read, A: Allocator>(
     need: usize,
 ) -> Result<bool, CapFault>
     requires { need ≤ ROOM }
-    ensures octets { Keeps (prepend_known (held ahead.old) (R.remaining source.old)) (prepend_known (held ahead.new) (R.remaining source.new)) }
+    ensures octets { Keeps (prepend_known (held ahead.old) (R.remaining source.old))
+        (prepend_known (held ahead.new) (R.remaining source.new)) }
     ensures enough { result ≡ Ok true → need ≤ length (held ahead.new) }
-    ensures ended { result ≡ Ok false → (length (held ahead.new) < need) × IsAtEnd (R.remaining source.new) }
+    ensures ended { result ≡ Ok false →
+        (length (held ahead.new) < need) × IsAtEnd (R.remaining source.new) }
     ensures fault { IfErr result (λ f. f ≡ CapFault.Read) }
-    ensures in_hand { need ≤ length (held ahead.old) → (result ≡ Ok true) × (source.new ≡ source.old) × (held ahead.new ≡ held ahead.old) }
+    ensures in_hand { need ≤ length (held ahead.old) →
+        (result ≡ Ok true) × (source.new ≡ source.old) × (held ahead.new ≡ held ahead.old) }
 {
     while ahead.len() < need {
         ahead.pull();
@@ -67,15 +70,19 @@ fn read_record<R: Read, A: Allocator>(
     format: Format,
     number: u32,
 ) -> Result<Option<RecordHeader>, CapFault>
-    ensures step { IfSome (prepend_known (held ahead.old) (R.remaining source.old)) (λ octets.
-        Step format number octets result ahead.new (prepend_known (held ahead.new) (R.remaining source.new))) }
+    ensures step { IfSome (prepend_known (held ahead.old) (R.remaining source.old))
+        (λ octets. Step format number octets result ahead.new
+        (prepend_known (held ahead.new) (R.remaining source.new))) }
     ensures start { IfOk result (λ o. IfSome o (λ header. header.captured ≤ ahead.new.start)) }
     ensures short { IfOk result (λ o. IfSome o (λ header. header.captured ≤ MAX_RECORD_OCTETS)) }
-    ensures fraction { IfOk result (λ o. IfSome o (λ header. header.fraction < fractions_of format.resolution)) }
+    ensures fraction { IfOk result
+        (λ o. IfSome o (λ header. header.fraction < fractions_of format.resolution)) }
     ensures few { IfOk result (λ o. IsSome o → number < MAX_RECORDS) }
     ensures fault { IfErr result (λ f. IsTrue (is_record_fault f)) }
-    ensures read { result ≡ Err CapFault.Read → fault_at format number (held ahead.old) ≡ Some CapFault.ShortRecord }
-    ensures unread { fault_at format number (held ahead.old) ≢ Some CapFault.ShortRecord → source.new ≡ source.old }
+    ensures read { result ≡ Err CapFault.Read →
+        fault_at format number (held ahead.old) ≡ Some CapFault.ShortRecord }
+    ensures unread { fault_at format number (held ahead.old) ≢ Some CapFault.ShortRecord →
+        source.new ≡ source.old }
 {
     if !fetch(ahead, source, RECORD_HEADER)? {
         return if ahead.len() == 0 {
@@ -103,8 +110,11 @@ fn take_whole<A: Allocator>(
     format: Format,
     number: u32,
 ) -> Option<RecordHeader>
-    ensures step { (after : Option (List ℕ)) → IfSome result (λ header. IfSome (prepend_known (held ahead.old) after) (λ octets.
-        Step format number octets (Ok (Some header)) ahead.new (prepend_known (held ahead.new) after))) }
+    ensures step { (after : Option (List ℕ)) →
+        IfSome result
+        (λ header. IfSome (prepend_known (held ahead.old) after) (λ octets.
+        Step format number octets (Ok (Some header)) ahead.new
+        (prepend_known (held ahead.new) after))) }
     ensures start { IfSome result (λ header. header.captured ≤ ahead.new.start) }
     ensures short { IfSome result (λ header. header.captured ≤ MAX_RECORD_OCTETS) }
     ensures fraction { IfSome result (λ header. header.fraction < fractions_of format.resolution) }
@@ -159,7 +169,9 @@ impl<R: Read, A: Allocator> CaptureReader<R, A> {
     /// once. Else nothing changes, and `advance` goes on.
     #[inline(always)]
     pub fn take_in_hand(&mut self) -> Option<RecordHeader>
-        ensures next { IfSome result (λ header. Next R.remaining (left self.old) (shown self.new (Ok (Some header))) (left self.new)) }
+        ensures next { IfSome result
+            (λ header. Next R.remaining (left self.old) (shown self.new (Ok (Some header)))
+            (left self.new)) }
         ensures few { IsSome result → (left self.old).number < MAX_RECORDS }
         ensures given { IfSome result (HasGiven self.new) }
         ensures kept { IfNone result (self.new ≡ self.old) }
@@ -193,7 +205,8 @@ impl<R: Read, A: Allocator> CaptureReader<R, A> {
     #[inline(always)]
     pub fn next(&mut self) -> Result<Option<Record<'_>>, CapFault>
         ensures few { IfOk result (λ o. IsSome o → (left self.old).number < MAX_RECORDS) }
-        ensures* next { sem 𝓛 (Rests (the_row R.row A.row A.Allocator) self.entry (λ new. Next R.remaining (left self.old) (answer result) (left new))) }
+        ensures* next { sem 𝓛 (Rests (the_row R.row A.row A.Allocator) self.entry (λ new.
+            Next R.remaining (left self.old) (answer result) (left new))) }
     {
         match self.advance() {
             Ok(None) => Ok(None),

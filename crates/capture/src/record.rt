@@ -23,7 +23,8 @@ pub struct Record<'a> {
 
 /// The priority in the customer tag, if one stands there whole.
 fn tag_priority(octets: &[u8]) -> Option<u8>
-    ensures { result ≡ (if is_tagged octets.now then Some (slice_index octets.now 14 / 32) else None) }
+    ensures { result
+        ≡ (if is_tagged octets.now then Some (slice_index octets.now 14 / 32) else None) }
 {
     if octets.len() >= 16 && octets[12] == CUSTOMER_TAG[0] && octets[13] == CUSTOMER_TAG[1] {
         Some(octets[14] >> 5)

@@ -79,7 +79,8 @@ impl CaptureWriter {
 
     /// Writes the file header: no zone, no accuracy, a snapshot length of `MAX_RECORD_OCTETS`, Ethernet.
     pub fn begin<W: Write>(writer: &mut W) -> Result<CaptureWriter, CapFault>
-        ensures octets { Writes result (W.contents writer.old) (W.contents writer.new) written_header }
+        ensures octets { Writes result (W.contents writer.old)
+            (W.contents writer.new) written_header }
         ensures goes_on { IfOk result (λ w. has_failed w ≡ false) }
         ensures fault { IfErr result (λ f. f ≡ CapFault.Write) }
     {
@@ -98,14 +99,16 @@ impl CaptureWriter {
     ) -> Result<(), CapFault>
         requires moment { moment < CAPTURE_END }
         requires size { length octets.now ≤ MAX_RECORD_OCTETS }
-        ensures octets { Writes result (W.contents writer.old) (W.contents writer.new) (written_record moment original octets.now) }
+        ensures octets { Writes result (W.contents writer.old) (W.contents writer.new)
+            (written_record moment original octets.now) }
         ensures goes_on { OnOk result (has_failed self.new ≡ false) }
         ensures fails { OnErr result (has_failed self.new ≡ true) }
         ensures fault { IfErr result (λ f. f ≡ CapFault.Write) }
 
         // After a fault nothing is written.
         ensures failed { IsTrue (has_failed self.old) → result ≡ Err CapFault.Write }
-        ensures nothing { IsTrue (has_failed self.old) → Keeps (W.contents writer.old) (W.contents writer.new) }
+        ensures nothing { IsTrue (has_failed self.old) →
+            Keeps (W.contents writer.old) (W.contents writer.new) }
     {
         if self.failed {
             return Err(CapFault::Write);

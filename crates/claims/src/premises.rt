@@ -80,11 +80,18 @@ pub fn commands<G: Gates>(held: &mut G, schedule: Schedule, lead: u128) -> Resul
     requires within { lead ≤ greatest_moment + greatest_lead }
     ensures sound { G.is_sound held.new }
     ensures moment { G.moment held.new ≡ G.moment held.old }
-    ensures answer { result ≡ answer_to (G.history held.old) (G.moment held.old) (accepted_at lead schedule) }
-    ensures history { G.history held.new ≡ with_command (G.history held.old) (G.moment held.old) (accepted_at lead schedule) }
-    ensures appended { OnOk result (AppendLaw 0 (G.moment held.old) (G.history held.old) (accepted_at lead schedule)) }
-    ensures hindsight { (n : ℕ) → n < lead → gates (G.history held.old ++ accepted_at lead schedule ∷ []) n ≡ gates (G.history held.old) n }
-    ensures further { (class n d : ℕ) → n + d ≤ lead → open_through (G.history held.old ++ accepted_at lead schedule ∷ []) class n d ≡ open_through (G.history held.old) class n d }
+    ensures answer { result
+        ≡ answer_to (G.history held.old) (G.moment held.old) (accepted_at lead schedule) }
+    ensures history { G.history held.new
+        ≡ with_command (G.history held.old) (G.moment held.old) (accepted_at lead schedule) }
+    ensures appended { OnOk result
+        (AppendLaw 0 (G.moment held.old) (G.history held.old) (accepted_at lead schedule)) }
+    ensures hindsight { (n : ℕ) → n < lead →
+        gates (G.history held.old ++ accepted_at lead schedule ∷ []) n
+        ≡ gates (G.history held.old) n }
+    ensures further { (class n d : ℕ) → n + d ≤ lead →
+        open_through (G.history held.old ++ accepted_at lead schedule ∷ []) class n d
+        ≡ open_through (G.history held.old) class n d }
 {
     append_law();
     hindsight_law();
@@ -97,7 +104,8 @@ pub fn commands<G: Gates>(held: &mut G, schedule: Schedule, lead: u128) -> Resul
 
 /// No frame that a port accepts outlasts the lead; every run of it is open in hindsight, and settles.
 pub fn runs<G: Gates, A: Allocator>(port: &Port<G, A>)
-    ensures lead { (f : Frame) (sdu : ℕ) → sdu_of f ≡ Some sdu → sdu ≤ port.now.port.mtu → FitsLead port.now.port.ps port.now.port.mtu f }
+    ensures lead { (f : Frame) (sdu : ℕ) → sdu_of f ≡ Some sdu → sdu ≤ port.now.port.mtu →
+        FitsLead port.now.port.ps port.now.port.mtu f }
     ensures hindsight { (events : List Event) → IsOpenInHindsight port.now.port events }
     ensures settling { (events : List Event) → IsSettledRun port.now.port events }
 {
@@ -115,7 +123,8 @@ pub fn counted(alloc: Global, rate: Rate) -> Result<Port<Stepped>, PortFault>
     ensures refused { IfErr result (λ fault. fault ≡ PortFault.Memory) }
     ensures counts { (counter : Counter) (class : ℕ) (events : List Event) → class < CLASSES →
         value_of counter (counts_at (port_after events (new_port rate 1500 128)) class)
-        ≡ add_capped 0 (sum_by (growth counter class) (happenings events (new_port rate 1500 128))) }
+        ≡ add_capped 0
+        (sum_by (growth counter class) (happenings events (new_port rate 1500 128))) }
 {
     counting_law();
     Port::new(alloc, rate, 1500, 128)

@@ -25,7 +25,8 @@ pub fn fit(
     requires class { class < CLASSES }
     requires from { from ≤ greatest_moment }
     requires within { length ≤ greatest_moment }
-    ensures fit { result ≡ first_fit (may_by schedule.now class) length from (in_ps schedule.now.cycle) }
+    ensures fit { result
+        ≡ first_fit (may_by schedule.now class) length from (in_ps schedule.now.cycle) }
     ensures soon { IfSome result (λ at. (from ≤ at) × (at < from + in_ps schedule.now.cycle)) }
 {
     let mut visits = Visits::zero();

@@ -34,8 +34,11 @@ fn longest_by(schedule: &Schedule, first: &Position, class: u8, length: u128) ->
     requires first { IsPlaced schedule.now 0 None 0 first.now }
     requires class { class < CLASSES }
     requires within { length ≤ greatest_moment }
-    requires some { IsSome (first_fit (may_by schedule.now class) length 0 (in_ps schedule.now.cycle)) }
-    ensures { result ≡ longest_of (may_by schedule.now class) (in_ps schedule.now.cycle) length (in_ps schedule.now.cycle) }
+    requires some { IsSome
+        (first_fit (may_by schedule.now class) length 0 (in_ps schedule.now.cycle)) }
+    ensures { result
+        ≡ longest_of (may_by schedule.now class) (in_ps schedule.now.cycle) length
+        (in_ps schedule.now.cycle) }
 {
     let mut visits = Visits::zero();
     let cycle = 1000 * u128::from(schedule.cycle_ns());

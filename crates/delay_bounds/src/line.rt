@@ -49,7 +49,14 @@ impl<A: Allocator> Model for Line<A> {
 
     ghost Value = { Standing };
 
-    ghost view = { λ l. record { track = record { nexts = l.nexts.items; free = l.free; starts = l.starts.items }; room = l.starts.capacity } };
+    ghost view = { λ l. record {
+      track = record {
+        nexts = l.nexts.items;
+        free = l.free;
+        starts = l.starts.items;
+      };
+      room = l.starts.capacity;
+    } };
 }
 
 // When the first frame of each flow comes.
@@ -107,14 +114,20 @@ impl<A: Allocator> Line<A> {
         requires class { class < CLASSES }
         requires flow { IsFlow flow }
         requires place { place < length self.old.track.nexts }
-        ensures told { IfOk result (λ told. arrives (may_by schedule.now class) (in_ps schedule.now.cycle) self.old.room t place flow self.old.track.free self.old.track.nexts self.old.track.starts ≡ Some (told, self.new.track)) }
+        ensures told { IfOk result
+            (λ told. arrives (may_by schedule.now class)
+            (in_ps schedule.now.cycle) self.old.room t place flow self.old.track.free self.old.track.nexts self.old.track.starts ≡ Some (told, self.new.track)) }
         ensures fits { IfOk result (λ told. told.wait < 2 ^ 128) }
         ensures room { self.new.room ≡ self.old.room }
-        ensures stop { MatchResult result (λ _. stop_of (may_by schedule.now class) (in_ps schedule.now.cycle) self.old.room t flow self.old.track.free self.old.track.starts ≡ None) (λ stop. stop_of (may_by schedule.now class) (in_ps schedule.now.cycle) self.old.room t flow self.old.track.free self.old.track.starts ≡ Some stop) }
+        ensures stop { MatchResult result
+            (λ _. stop_of (may_by schedule.now class)
+            (in_ps schedule.now.cycle) self.old.room t flow self.old.track.free self.old.track.starts ≡ None) (λ stop. stop_of (may_by schedule.now class) (in_ps schedule.now.cycle) self.old.room t flow self.old.track.free self.old.track.starts ≡ Some stop) }
         ensures same { IfErr result (λ _. self.new ≡ self.old) }
         ensures full { (result ≡ Err Stop.Full) ↔ (self.old.room ≤ length self.old.track.starts) }
         ensures late { (result ≡ Err Stop.Late) → (greatest_moment < max t self.old.track.free) }
-        ensures never { (result ≡ Err Stop.Never) → first_fit (may_by schedule.now class) flow.need (max t self.old.track.free) (in_ps schedule.now.cycle) ≡ None }
+        ensures never { (result ≡ Err Stop.Never) →
+            first_fit (may_by schedule.now class) flow.need (max t self.old.track.free)
+            (in_ps schedule.now.cycle) ≡ None }
     {
         if self.starts.len() >= self.starts.capacity() {
             return Err(Stop::Full);
@@ -163,7 +176,8 @@ impl<A: Allocator> Line<A> {
         requires place { place < length self.old.track.nexts }
         requires t { t ≤ greatest_moment }
         requires room { length self.old.track.starts < self.old.room }
-        ensures { self.new ≡ record { track = staying flow (t, place) self.old.track; room = self.old.room } }
+        ensures { self.new
+            ≡ record { track = staying flow (t, place) self.old.track; room = self.old.room } }
     {
         let _ = self.starts.try_push_back(u128::MAX);
         self.nexts[place] = t + flow.period;

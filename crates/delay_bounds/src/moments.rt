@@ -87,7 +87,8 @@ fn is_later_at<A: Allocator>(
     by: u128,
 ) -> bool
     requires within { (place < length moments.now.items) × (place < length old.now.items) }
-    ensures { IsTrue result ↔ (slice_index_or moments.now.items place 0 ≡ slice_index_or old.now.items place 0 + by) }
+    ensures { IsTrue result
+        ↔ (slice_index_or moments.now.items place 0 ≡ slice_index_or old.now.items place 0 + by) }
 {
     match (moments.get(place), old.get(place)) {
         (Some(moment), Some(before)) => is_later(*moment, *before, by),

@@ -107,7 +107,8 @@ fn unbound<A: Allocator>(
     requires some { 0 < length flows.now }
     requires flows { All IsFlow flows.now }
     requires places { length line.old.track.nexts ≡ length flows.now }
-    ensures { result ≡ unbound_by stop frame (first_refused line.old.room flows.now line.old.track) }
+    ensures { result
+        ≡ unbound_by stop frame (first_refused line.old.room flows.now line.old.track) }
 {
     match stop {
         Stop::Full => Unbound::Full(frame),
@@ -146,7 +147,13 @@ fn walk<A: Allocator>(
     requires bounds { (length bounds.old ≡ length flows.now) × All (λ b. b ≡ unseen) bounds.old }
     ensures count { IfOk result (λ seen. length bounds.new ≡ length flows.now) }
     ensures answer { MatchResult result
-        (λ seen. answer_of schedule.now class line.old.room flows.now limit ≡ Ok (record { bounds = bounds.new; most = seen.most; frames = seen.frames; every = seen.every }))
+        (λ seen. answer_of schedule.now class line.old.room flows.now limit
+        ≡ Ok (record {
+          bounds = bounds.new;
+          most = seen.most;
+          frames = seen.frames;
+          every = seen.every;
+        }))
         (λ why. answer_of schedule.now class line.old.room flows.now limit ≡ Err why) }
 {
     let position = Position::first(schedule, 0, &mut Visits::zero());
@@ -222,8 +229,15 @@ where
     ensures recurs { IfOk result (λ b. Recurs schedule.now class room flows.now b.frames b.every) }
     ensures unbound { IfErr result (IsUnbound schedule.now class room flows.now limit) }
     ensures answer { MatchResult result
-        (λ b. answer_of schedule.now class room flows.now limit ≡ Ok (record { bounds = b.bounds.items; most = b.most; frames = b.frames; every = b.every }))
-        (λ why. (why ≡ Unbound.Memory) ⊎ (answer_of schedule.now class room flows.now limit ≡ Err why)) }
+        (λ b. answer_of schedule.now class room flows.now limit
+        ≡ Ok (record {
+          bounds = b.bounds.items;
+          most = b.most;
+          frames = b.frames;
+          every = b.every;
+        }))
+        (λ why. (why ≡ Unbound.Memory)
+        ⊎ (answer_of schedule.now class room flows.now limit ≡ Err why)) }
 {
     let Ok(mut line) = Line::new(alloc, flows, room as usize) else {
         return Err(Unbound::Memory);

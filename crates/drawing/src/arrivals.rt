@@ -72,7 +72,8 @@ impl<A: Allocator> ClassArrivals<A> {
 /// A frame of a class came.
 fn put_in<A: Allocator>(classes: &mut [ClassArrivals<A>; CLASSES], class: u8, moment: u128)
     requires { class < CLASSES }
-    ensures { classes.new ≡ slice_set classes.old class (with_arrival moment (waiting_in classes.old class)) }
+    ensures { classes.new
+        ≡ slice_set classes.old class (with_arrival moment (waiting_in classes.old class)) }
 {
     classes[class as usize].put(moment);
 }
@@ -81,7 +82,8 @@ fn put_in<A: Allocator>(classes: &mut [ClassArrivals<A>; CLASSES], class: u8, mo
 fn take_from<A: Allocator>(classes: &mut [ClassArrivals<A>; CLASSES], class: u8) -> Option<u128>
     requires { class < CLASSES }
     ensures first { result ≡ slice_get (waiting_in classes.old class).moments 0 }
-    ensures rest { classes.new ≡ slice_set classes.old class (without_first (waiting_in classes.old class)) }
+    ensures rest { classes.new
+        ≡ slice_set classes.old class (without_first (waiting_in classes.old class)) }
 {
     classes[class as usize].take()
 }

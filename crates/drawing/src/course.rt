@@ -38,7 +38,13 @@ impl<A: Allocator> Model for Course<A> {
 
     ghost Value = { Course };
 
-    ghost view = { λ c. record { waiting = c.arrivals; shown = c.shapes; last = c.last; lead = c.lead; scope = c.scope } };
+    ghost view = { λ c. record {
+      waiting = c.arrivals;
+      shown = c.shapes;
+      last = c.last;
+      lead = c.lead;
+      scope = c.scope;
+    } };
 }
 
 /// The frames of a class that wait wait on to this moment, in picoseconds.
@@ -158,7 +164,8 @@ impl<A: Allocator> Course<A> {
     /// Neighbours in a lane that are closer to one another than a gap, in picoseconds, are joined.
     pub fn join(&mut self, gap: u128)
         ensures shown { IsJoined gap self.old.shown self.new.shown }
-        ensures same { (self.new.waiting ≡ self.old.waiting) × (self.new.last ≡ self.old.last) × (self.new.lead ≡ self.old.lead) × (self.new.scope ≡ self.old.scope) }
+        ensures same { (self.new.waiting ≡ self.old.waiting) × (self.new.last ≡ self.old.last)
+            × (self.new.lead ≡ self.old.lead) × (self.new.scope ≡ self.old.scope) }
     {
         self.shapes.join(gap);
     }

@@ -25,10 +25,13 @@ pub fn answer_draw<B: Allocator, R: Read, W: Write + Drop, E: Errors, H: Watch>(
     watch: &mut H,
 ) -> (Ended, W)
     ensures ending { IsDrawEnding (settings_given greatest_moment (words_of_values values.entry))
-        (options_of (words_of_draws draws.entry))
-        (R.remaining reader.old) result.0 (writer_contents W.contents answers) (W.contents result.1) (E.contents errors.old) (E.contents errors.new) }
-    ensures unread { IfErr (settings_given greatest_moment (words_of_values values.entry)) (λ _. reader.new ≡ reader.old) }
-    ensures unused { IfErr (options_of (words_of_draws draws.entry)) (λ _. reader.new ≡ reader.old) }
+        (options_of (words_of_draws draws.entry)) (R.remaining reader.old) result.0
+        (writer_contents W.contents answers) (W.contents result.1) (E.contents errors.old)
+        (E.contents errors.new) }
+    ensures unread { IfErr (settings_given greatest_moment (words_of_values values.entry))
+        (λ _. reader.new ≡ reader.old) }
+    ensures unused { IfErr (options_of (words_of_draws draws.entry))
+        (λ _. reader.new ≡ reader.old) }
 {
     let settings = match settings_given(values, MAX_MOMENT) {
         Ok(settings) => settings,

@@ -182,7 +182,8 @@ fn take_command<A: Allocator>(
 
 /// The command that an event gives.
 fn command_in<'a>(event: &Event<'a>) -> Option<&'a Command>
-    ensures { MatchOption result (no_command event.now ≡ true) (λ command. event.now ≡ Install command) }
+    ensures { MatchOption result (no_command event.now ≡ true)
+        (λ command. event.now ≡ Install command) }
 {
     match event {
         Event::Install(command) => Some(*command),
@@ -226,9 +227,15 @@ fn take_tc<A: Allocator, H: Watch>(
     settings: Settings,
     watch: &mut H,
 )
-    ensures course { (read : List (List ℕ) → Result Command TcFault) → IsReader read → course.new ≡ seen_by (tc_request (read (words_of line.now))) port.old.port course.old }
-    ensures bands { (read : List (List ℕ) → Result Command TcFault) → IsReader read → (o : DrawOptions) → BandsBy settings o (tc_request (read (words_of line.now))) port.old.port course.old bands.old bands.new }
-    ensures port { (read : List (List ℕ) → Result Command TcFault) → IsReader read → port.new.port ≡ settled (responses_to (tc_request (read (words_of line.now))) port.old.port).1 }
+    ensures course { (read : List (List ℕ) → Result Command TcFault) → IsReader read →
+        course.new ≡ seen_by (tc_request (read (words_of line.now))) port.old.port course.old }
+    ensures bands { (read : List (List ℕ) → Result Command TcFault) → IsReader read →
+        (o : DrawOptions) →
+        BandsBy settings o
+        (tc_request (read (words_of line.now))) port.old.port course.old bands.old bands.new }
+    ensures port { (read : List (List ℕ) → Result Command TcFault) → IsReader read →
+        port.new.port
+        ≡ settled (responses_to (tc_request (read (words_of line.now))) port.old.port).1 }
     ensures sound { IsSoundPort port.new.port }
     ensures few { HasFewVisits port.old.port port.old port.new }
 {
@@ -257,9 +264,11 @@ fn take_line<A: Allocator, H: Watch>(
     watch: &mut H,
 ) -> Result<(), ScriptFault>
     ensures taken { (read : List (List ℕ) → Result Command TcFault) → IsReader read →
-        TakesLine result (request_of read line.now) port.old.port course.old port.new.port course.new }
+        TakesLine result
+        (request_of read line.now) port.old.port course.old port.new.port course.new }
     ensures bands { (read : List (List ℕ) → Result Command TcFault) → IsReader read →
-        BandsOfLine settings options (request_of read line.now) port.old.port course.old bands.old bands.new }
+        BandsOfLine settings options
+        (request_of read line.now) port.old.port course.old bands.old bands.new }
     ensures sound { IsSoundPort port.new.port }
     ensures few { HasFewVisits port.old.port port.old port.new }
 {
@@ -289,10 +298,15 @@ fn take_lines<A: Allocator, B: Allocator, R: Read + Drop, H: Watch>(
     options: DrawOptions,
     watch: &mut H,
 ) -> Result<(), RunFault>
-    ensures taken { (read : List (List ℕ) → Result Command TcFault) → IsReader read → IfSome (script_left R.remaining lines.old) (λ script.
-        Takes result (reading_of read script) port.old.port course.old port.new.port course.new) }
-    ensures bands { (read : List (List ℕ) → Result Command TcFault) → IsReader read → IfSome (script_left R.remaining lines.old) (λ script.
-        OnOk result (BandsAfter settings options (reading_of read script).requests port.old.port course.old bands.old bands.new)) }
+    ensures taken { (read : List (List ℕ) → Result Command TcFault) → IsReader read →
+        IfSome (script_left R.remaining lines.old)
+        (λ script. Takes result
+        (reading_of read script) port.old.port course.old port.new.port course.new) }
+    ensures bands { (read : List (List ℕ) → Result Command TcFault) → IsReader read →
+        IfSome (script_left R.remaining lines.old)
+        (λ script. OnOk result
+        (BandsAfter settings options
+        (reading_of read script).requests port.old.port course.old bands.old bands.new)) }
 {
     settling();
     // For the prover: a call on a port says what holds of every port.
@@ -355,7 +369,8 @@ fn put_course<A: Allocator, W: Write>(
     writer: &mut W,
     page: &Page,
 ) -> Result<(), WriteFault>
-    ensures text { Writes result (W.contents writer.old) (W.contents writer.new) (fitted_text page.now bands.now course.old.shown) }
+    ensures text { Writes result (W.contents writer.old) (W.contents writer.new)
+        (fitted_text page.now bands.now course.old.shown) }
     ensures few { bands_to WIRE bands.now.classes bands.now.mixed ≤ 2 * WIRE * MOST_SHAPES }
 {
     fit(bands, course, &page.viewport);
@@ -384,8 +399,10 @@ fn draw_shown<A: Allocator, W: Write>(
     options: DrawOptions,
     viewport: Viewport,
 ) -> Result<(), WriteFault>
-    ensures { ForSomeBands (λ b. EndBands options port.old.port course.old bands.old (Some viewport) b
-        × Writes result (W.contents writer.old) (W.contents writer.new) (shown_text settings options port.old.port course.old b (Some viewport))) }
+    ensures { ForSomeBands
+        (λ b. EndBands options port.old.port course.old bands.old (Some viewport) b
+        × Writes result (W.contents writer.old) (W.contents writer.new)
+        (shown_text settings options port.old.port course.old b (Some viewport))) }
 {
     let scope = course.scope();
     end_course(port, course, viewport.to());
@@ -403,8 +420,10 @@ fn draw_ended<A: Allocator, W: Write>(
     settings: Settings,
     options: DrawOptions,
 ) -> Result<(), WriteFault>
-    ensures { ForSomeBands (λ b. BandsShown options port.old.port course.old bands.old b
-        × Writes result (W.contents writer.old) (W.contents writer.new) (end_text settings options port.old.port course.old b)) }
+    ensures { ForSomeBands
+        (λ b. BandsShown options port.old.port course.old bands.old b
+        × Writes result (W.contents writer.old) (W.contents writer.new)
+        (end_text settings options port.old.port course.old b)) }
 {
     match options.viewport(course.scope(), last_moment(port, course)) {
         Some(viewport) => draw_shown(port, bands, course, writer, settings, options, viewport),
@@ -421,8 +440,10 @@ fn draw_end<A: Allocator, W: Write>(
     settings: Settings,
     options: DrawOptions,
 ) -> Result<(), WriteFault>
-    ensures { ForSomeBands (λ b. BandsAtEnd settings options port.old.port course.old bands.old b
-        × Writes result (W.contents writer.old) (W.contents writer.new) (picture_after settings options port.old.port course.old b)) }
+    ensures { ForSomeBands
+        (λ b. BandsAtEnd settings options port.old.port course.old bands.old b
+        × Writes result (W.contents writer.old) (W.contents writer.new)
+        (picture_after settings options port.old.port course.old b)) }
 {
     run_on(port, course, settings.until());
     draw_ended(port, bands, course, writer, settings, options)
@@ -439,8 +460,11 @@ fn draw_lines<A: Allocator, B: Allocator, R: Read + Drop, W: Write, H: Watch>(
     options: DrawOptions,
     watch: &mut H,
 ) -> Result<(), RunFault>
-    ensures { (read : List (List ℕ) → Result Command TcFault) → IsReader read → IfSome (script_left R.remaining lines.old) (λ script.
-        IsDrawnFrom settings options (reading_of read script) port.old.port course.old bands.old result (W.contents writer.old) (W.contents writer.new)) }
+    ensures { (read : List (List ℕ) → Result Command TcFault) → IsReader read →
+        IfSome (script_left R.remaining lines.old)
+        (λ script. IsDrawnFrom settings options
+        (reading_of read script) port.old.port course.old bands.old result (W.contents writer.old)
+        (W.contents writer.new)) }
 {
     take_lines(port, bands, course, lines, settings, options, watch)?;
     draw_end(port, bands, course, writer, settings, options)?;
@@ -470,8 +494,11 @@ fn draw_course<B: Allocator, R: Read + Drop, W: Write, H: Watch>(
     options: DrawOptions,
     watch: &mut H,
 ) -> Result<(), RunFault>
-    ensures { (read : List (List ℕ) → Result Command TcFault) → IsReader read → IfSome (script_left R.remaining lines.old) (λ script.
-        IsDrawnFrom settings options (reading_of read script) port.old.port (first_course settings options) bands.old result (W.contents writer.old) (W.contents writer.new)) }
+    ensures { (read : List (List ℕ) → Result Command TcFault) → IsReader read →
+        IfSome (script_left R.remaining lines.old)
+        (λ script. IsDrawnFrom settings options (reading_of read script) port.old.port
+        (first_course settings options) bands.old result (W.contents writer.old)
+        (W.contents writer.new)) }
 {
     let mut course = first_course(alloc, settings, options)?;
     draw_lines(
@@ -496,8 +523,11 @@ fn draw_bands<B: Allocator, R: Read + Drop, W: Write, H: Watch>(
     options: DrawOptions,
     watch: &mut H,
 ) -> Result<(), RunFault>
-    ensures { (read : List (List ℕ) → Result Command TcFault) → IsReader read → IfSome (script_left R.remaining lines.old) (λ script.
-        IsDrawnFrom settings options (reading_of read script) port.old.port (first_course settings options) (first_bands options) result (W.contents writer.old) (W.contents writer.new)) }
+    ensures { (read : List (List ℕ) → Result Command TcFault) → IsReader read →
+        IfSome (script_left R.remaining lines.old)
+        (λ script. IsDrawnFrom settings options (reading_of read script) port.old.port
+        (first_course settings options) (first_bands options) result (W.contents writer.old)
+        (W.contents writer.new)) }
 {
     let view = options.view(Scope::Nothing);
     let mut bands = Bands::new(alloc, view.from, view.to)?;
@@ -515,8 +545,11 @@ fn draw_port<B: Allocator, R: Read + Drop, W: Write, H: Watch>(
     options: DrawOptions,
     watch: &mut H,
 ) -> Result<(), RunFault>
-    ensures { (read : List (List ℕ) → Result Command TcFault) → IsReader read → IfSome (script_left R.remaining lines.old) (λ script.
-        IsDrawnFrom settings options (reading_of read script) (new_port settings.rate settings.mtu settings.room) (first_course settings options) (first_bands options) result (W.contents writer.old) (W.contents writer.new)) }
+    ensures { (read : List (List ℕ) → Result Command TcFault) → IsReader read →
+        IfSome (script_left R.remaining lines.old)
+        (λ script. IsDrawnFrom settings options (reading_of read script)
+        (new_port settings.rate settings.mtu settings.room) (first_course settings options)
+        (first_bands options) result (W.contents writer.old) (W.contents writer.new)) }
 {
     let rate = settings.rate();
     // For the prover: the getter says within which limits a rate lies.
@@ -541,8 +574,11 @@ pub fn draw<R: Read + Drop, W: Write, H: Watch>(
     options: DrawOptions,
     watch: &mut H,
 ) -> Result<(), RunFault>
-    ensures { (read : List (List ℕ) → Result Command TcFault) → IsReader read → IfSome (R.remaining reader) (λ input.
-        IsDrawnFrom settings options (reading_of read (script_of input)) (new_port settings.rate settings.mtu settings.room) (first_course settings options) (first_bands options) result (W.contents writer.old) (W.contents writer.new)) }
+    ensures { (read : List (List ℕ) → Result Command TcFault) → IsReader read →
+        IfSome (R.remaining reader)
+        (λ input. IsDrawnFrom settings options (reading_of read (script_of input))
+        (new_port settings.rate settings.mtu settings.room) (first_course settings options)
+        (first_bands options) result (W.contents writer.old) (W.contents writer.new)) }
 {
     let mut lines = LineReader::new(&alloc, reader)?;
     draw_port(&alloc, &mut lines, writer, settings, options, watch)

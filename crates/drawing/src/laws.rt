@@ -6,5 +6,7 @@ ghost use Rattle.drawing.specs.declared.page.Page.{Page};
 
 /// An axis has two ticks at least: at the first multiple of its step that is shown, and at the last.
 pub fn axis_law()
-    ensures { (page : Page) → page.viewport.from < page.viewport.to → page.origin ≤ page.viewport.from → first_tick page (axis_step page) < last_tick page (axis_step page) }
+    ensures { (page : Page) → page.viewport.from < page.viewport.to →
+        page.origin ≤ page.viewport.from →
+        first_tick page (axis_step page) < last_tick page (axis_step page) }
 {}

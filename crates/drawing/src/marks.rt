@@ -34,7 +34,8 @@ pub(crate) fn put_rect<W: Write>(
     top: u32,
     height: u32,
 ) -> Result<(), WriteFault>
-    ensures { Writes result (W.contents writer.old) (W.contents writer.new) (rect_text look.now left width top height) }
+    ensures { Writes result (W.contents writer.old) (W.contents writer.new)
+        (rect_text look.now left width top height) }
 {
     let edge: &[u8] = if width < LEAST_EDGED { b" s" } else { b"" };
     put_parts(
@@ -70,7 +71,8 @@ pub(crate) fn put_line<W: Write>(
     top: u32,
     bottom: u32,
 ) -> Result<(), WriteFault>
-    ensures { Writes result (W.contents writer.old) (W.contents writer.new) (line_text look.now x top bottom) }
+    ensures { Writes result (W.contents writer.old) (W.contents writer.new)
+        (line_text look.now x top bottom) }
 {
     put_parts(
         writer,
@@ -107,7 +109,8 @@ fn put_light<W: Write>(
     top: u32,
     shape: &Shape,
 ) -> Result<(), WriteFault>
-    ensures { Writes result (W.contents writer.old) (W.contents writer.new) (light_text page.now top shape.now) }
+    ensures { Writes result (W.contents writer.old) (W.contents writer.new)
+        (light_text page.now top shape.now) }
 {
     let Some(span) = page.viewport.cut(shape.span) else {
         return Ok(());
@@ -127,7 +130,8 @@ pub(crate) fn put_lights<W: Write>(
     top: u32,
     shapes: &[Shape],
 ) -> Result<(), WriteFault>
-    ensures { Writes result (W.contents writer.old) (W.contents writer.new) (lights_text page.now top shapes.now) }
+    ensures { Writes result (W.contents writer.old) (W.contents writer.new)
+        (lights_text page.now top shapes.now) }
 {
     for shape in shapes {
         put_light(writer, page, top, shape)?;
@@ -266,7 +270,8 @@ fn put_grey_before<W: Write>(
     new: Grey,
 ) -> Result<(), WriteFault>
     requires { IsInRow old }
-    ensures { Writes result (W.contents writer.old) (W.contents writer.new) (grey_before top old new) }
+    ensures { Writes result (W.contents writer.old) (W.contents writer.new)
+        (grey_before top old new) }
 {
     if old.from == new.from {
         return Ok(());
@@ -283,7 +288,8 @@ pub(crate) fn put_greys<W: Write>(
     shapes: &[Shape],
     is_mixed: bool,
 ) -> Result<(), WriteFault>
-    ensures { Writes result (W.contents writer.old) (W.contents writer.new) (greys_text page.now top is_mixed shapes.now no_grey) }
+    ensures { Writes result (W.contents writer.old) (W.contents writer.new)
+        (greys_text page.now top is_mixed shapes.now no_grey) }
 {
     let mut grey = no_grey();
     for shape in shapes {
@@ -319,7 +325,8 @@ fn has_room(width: u64, id: u64) -> bool
 /// Writes the number of a frame in the middle of its bar.
 fn put_id<W: Write>(writer: &mut W, middle: u64, top: u32, id: u64) -> Result<(), WriteFault>
     requires { top ≤ BOTTOM }
-    ensures { Writes result (W.contents writer.old) (W.contents writer.new) (id_text middle top id) }
+    ensures { Writes result (W.contents writer.old) (W.contents writer.new)
+        (id_text middle top id) }
 {
     put_parts(
         writer,
@@ -344,7 +351,8 @@ fn put_number<W: Write>(
 ) -> Result<(), WriteFault>
     requires top { top ≤ BOTTOM }
     requires few { place.left + place.width ≤ 100 * (LEFT + MAX_WIDTH) }
-    ensures { Writes result (W.contents writer.old) (W.contents writer.new) (number_text place top id) }
+    ensures { Writes result (W.contents writer.old) (W.contents writer.new)
+        (number_text place top id) }
 {
     match id {
         Some(id) if has_room(place.width, id) => {
@@ -357,7 +365,8 @@ fn put_number<W: Write>(
 /// Writes the bar of a frame, or of frames that are joined, and its number where there is room.
 fn put_bar<W: Write>(writer: &mut W, page: &Page, top: u32, shape: &Shape) -> Result<(), WriteFault>
     requires { top ≤ BOTTOM }
-    ensures { Writes result (W.contents writer.old) (W.contents writer.new) (bar_text page.now top shape.now) }
+    ensures { Writes result (W.contents writer.old) (W.contents writer.new)
+        (bar_text page.now top shape.now) }
 {
     let Some(span) = page.viewport.cut(shape.span) else {
         return Ok(());
@@ -382,7 +391,8 @@ pub(crate) fn put_bars<W: Write>(
     shapes: &[Shape],
 ) -> Result<(), WriteFault>
     requires { top ≤ BOTTOM }
-    ensures { Writes result (W.contents writer.old) (W.contents writer.new) (bars_text page.now top shapes.now) }
+    ensures { Writes result (W.contents writer.old) (W.contents writer.new)
+        (bars_text page.now top shapes.now) }
 {
     for shape in shapes {
         put_bar(writer, page, top, shape)?;
@@ -393,7 +403,8 @@ pub(crate) fn put_bars<W: Write>(
 /// Writes the mark of an arrival, where it is shown.
 fn put_arrival<W: Write>(writer: &mut W, is_shown: bool, x: u64, top: u32) -> Result<(), WriteFault>
     requires { top ≤ BOTTOM }
-    ensures { Writes result (W.contents writer.old) (W.contents writer.new) (arrival_text is_shown x top) }
+    ensures { Writes result (W.contents writer.old) (W.contents writer.new)
+        (arrival_text is_shown x top) }
 {
     if is_shown {
         return put_line(writer, b"w", x, top + 2, top + 26);
@@ -417,7 +428,8 @@ fn put_wait_line<W: Write>(
     is_over: bool,
 ) -> Result<(), WriteFault>
     requires { top ≤ BOTTOM }
-    ensures { Writes result (W.contents writer.old) (W.contents writer.new) (wait_line left right top is_over) }
+    ensures { Writes result (W.contents writer.old) (W.contents writer.new)
+        (wait_line left right top is_over) }
 {
     put_parts(
         writer,
@@ -449,7 +461,8 @@ fn put_wait<W: Write>(
     shape: &Shape,
 ) -> Result<(), WriteFault>
     requires { top ≤ BOTTOM }
-    ensures { Writes result (W.contents writer.old) (W.contents writer.new) (wait_text page.now top shape.now) }
+    ensures { Writes result (W.contents writer.old) (W.contents writer.new)
+        (wait_text page.now top shape.now) }
 {
     let Some(span) = page.viewport.cut(shape.span) else {
         return Ok(());
@@ -469,7 +482,8 @@ pub(crate) fn put_waits<W: Write>(
     shapes: &[Shape],
 ) -> Result<(), WriteFault>
     requires { top ≤ BOTTOM }
-    ensures { Writes result (W.contents writer.old) (W.contents writer.new) (waits_text page.now top shapes.now) }
+    ensures { Writes result (W.contents writer.old) (W.contents writer.new)
+        (waits_text page.now top shapes.now) }
 {
     for shape in shapes {
         put_wait(writer, page, top, shape)?;
@@ -497,7 +511,8 @@ fn put_cross<W: Write>(writer: &mut W, left: u64, top: u32) -> Result<(), WriteF
 
 /// Writes the last cross of frames that were dropped, where it lies elsewhere than the first, and the end of the mark.
 fn put_second_cross<W: Write>(writer: &mut W, left: u64, right: u64) -> Result<(), WriteFault>
-    ensures { Writes result (W.contents writer.old) (W.contents writer.new) (second_cross left right) }
+    ensures { Writes result (W.contents writer.old) (W.contents writer.new)
+        (second_cross left right) }
 {
     if left / 100 < right / 100 {
         return put_parts(
@@ -520,7 +535,8 @@ fn put_drop<W: Write>(
     shape: &Shape,
 ) -> Result<(), WriteFault>
     requires { top ≤ BOTTOM }
-    ensures { Writes result (W.contents writer.old) (W.contents writer.new) (drop_text page.now top shape.now) }
+    ensures { Writes result (W.contents writer.old) (W.contents writer.new)
+        (drop_text page.now top shape.now) }
 {
     let Some(span) = page.viewport.cut(shape.span) else {
         return Ok(());
@@ -539,7 +555,8 @@ pub(crate) fn put_drops<W: Write>(
     shapes: &[Shape],
 ) -> Result<(), WriteFault>
     requires { top ≤ BOTTOM }
-    ensures { Writes result (W.contents writer.old) (W.contents writer.new) (drops_text page.now top shapes.now) }
+    ensures { Writes result (W.contents writer.old) (W.contents writer.new)
+        (drops_text page.now top shapes.now) }
 {
     for shape in shapes {
         put_drop(writer, page, top, shape)?;
@@ -578,7 +595,8 @@ fn put_change_number<W: Write>(writer: &mut W, number: Option<u64>) -> Result<()
 /// Writes the beginning of a label whose middle lies at this place, in hundredths of a pixel, and which stands on this
 /// line, in pixels from above.
 pub(crate) fn put_label<W: Write>(writer: &mut W, middle: u64, line: u32) -> Result<(), WriteFault>
-    ensures { Writes result (W.contents writer.old) (W.contents writer.new) (label_text middle line) }
+    ensures { Writes result (W.contents writer.old) (W.contents writer.new)
+        (label_text middle line) }
 {
     put_parts(
         writer,
@@ -599,7 +617,8 @@ fn put_change_name<W: Write>(
     x: u64,
     number: Option<u64>,
 ) -> Result<(), WriteFault>
-    ensures { Writes result (W.contents writer.old) (W.contents writer.new) (change_name page.now x number) }
+    ensures { Writes result (W.contents writer.old) (W.contents writer.new)
+        (change_name page.now x number) }
 {
     let label = page.label(x, 7 + number_length(number));
     put_label(writer, label, CLASS_TOP - 14)?;
@@ -609,7 +628,8 @@ fn put_change_name<W: Write>(
 /// Writes the line of the last of changes that are joined, where it lies elsewhere than the first, and the line that
 /// joins both above.
 fn put_last_change<W: Write>(writer: &mut W, left: u64, right: u64) -> Result<(), WriteFault>
-    ensures { Writes result (W.contents writer.old) (W.contents writer.new) (last_change left right) }
+    ensures { Writes result (W.contents writer.old) (W.contents writer.new)
+        (last_change left right) }
 {
     if left / 100 < right / 100 {
         return put_parts(
@@ -632,7 +652,8 @@ fn put_last_change<W: Write>(writer: &mut W, left: u64, right: u64) -> Result<()
 
 /// Writes the line of changes of the schedule, from the first to the last of them: one, or two that are joined above.
 fn put_change_lines<W: Write>(writer: &mut W, left: u64, right: u64) -> Result<(), WriteFault>
-    ensures { Writes result (W.contents writer.old) (W.contents writer.new) (change_lines left right) }
+    ensures { Writes result (W.contents writer.old) (W.contents writer.new)
+        (change_lines left right) }
 {
     put_line(writer, b"c", left, CLASS_TOP - 10, BOTTOM)?;
     put_last_change(writer, left, right)
@@ -646,7 +667,8 @@ fn put_change_mark<W: Write>(
     shape: &Shape,
     free: u64,
 ) -> Result<u64, WriteFault>
-    ensures text { Writes result (W.contents writer.old) (W.contents writer.new) (change_text page.now free shape.now) }
+    ensures text { Writes result (W.contents writer.old) (W.contents writer.new)
+        (change_text page.now free shape.now) }
     ensures free { IfOk result (λ next. next ≡ free_after page.now free shape.now) }
 {
     let Some(span) = page.viewport.cut(shape.span) else {
@@ -667,7 +689,8 @@ pub(crate) fn put_change_marks<W: Write>(
     page: &Page,
     shapes: &[Shape],
 ) -> Result<(), WriteFault>
-    ensures { Writes result (W.contents writer.old) (W.contents writer.new) (changes_text page.now 0 shapes.now) }
+    ensures { Writes result (W.contents writer.old) (W.contents writer.new)
+        (changes_text page.now 0 shapes.now) }
 {
     let mut free = 0;
     for shape in shapes {

@@ -78,7 +78,8 @@ impl Page {
     /// Where a moment, in picoseconds, lies in the picture: hundredths of a pixel from the left.
     pub fn x(&self, moment: u128) -> u64
         ensures place { result ≡ 100 * LEFT + x_in self.now.viewport moment }
-        ensures within { (100 * LEFT ≤ result) × (result ≤ 100 * (LEFT + self.now.viewport.width)) × (result ≤ 100 * (LEFT + MAX_WIDTH)) }
+        ensures within { (100 * LEFT ≤ result) × (result ≤ 100 * (LEFT + self.now.viewport.width))
+            × (result ≤ 100 * (LEFT + MAX_WIDTH)) }
     {
         // For the prover: the getter says within which limits a width lies.
         let _width = self.viewport.width();
@@ -89,7 +90,10 @@ impl Page {
     /// of a pixel, and lies in the row.
     pub fn place(&self, span: Span, least: u64) -> Place
         requires { least ≤ 200 }
-        ensures place { result ≡ place_of (100 * (LEFT + self.now.viewport.width)) least (100 * LEFT + x_in self.now.viewport span.from) (100 * LEFT + x_in self.now.viewport span.to) }
+        ensures place { result
+            ≡ place_of (100 * (LEFT + self.now.viewport.width)) least
+            (100 * LEFT + x_in self.now.viewport span.from)
+            (100 * LEFT + x_in self.now.viewport span.to) }
         ensures wide { least ≤ result.width }
         ensures within { result.left + result.width ≤ 100 * (LEFT + self.now.viewport.width) }
         ensures few { result.left + result.width ≤ 100 * (LEFT + MAX_WIDTH) }

@@ -30,7 +30,8 @@ fn empty_lane<A: Allocator + Clone>(alloc: &A) -> Result<Lane<A>, AllocError>
 
 /// Three lanes in which nothing is drawn.
 fn three_lanes<A: Allocator + Clone>(alloc: &A) -> Result<(Lane<A>, Lane<A>, Lane<A>), AllocError>
-    ensures { IfOk result (λ three. (three.0 ≡ no_shapes) × (three.1 ≡ no_shapes) × (three.2 ≡ no_shapes)) }
+    ensures { IfOk result
+        (λ three. (three.0 ≡ no_shapes) × (three.1 ≡ no_shapes) × (three.2 ≡ no_shapes)) }
 {
     let first = empty_lane(alloc)?;
     let second = empty_lane(alloc)?;
@@ -92,7 +93,8 @@ fn join_in<A: Allocator>(lanes: &mut [Lane<A>; 9], lane: u8, gap: u128)
 
 /// Neighbours in each lane that are closer to one another than a gap, in picoseconds, are joined.
 fn join_lanes<A: Allocator>(lanes: &mut [Lane<A>; 9], gap: u128)
-    ensures { (lane : ℕ) → lane < LANES → lane_at lanes.new lane ≡ joined_at gap (lane_at lanes.old lane) }
+    ensures { (lane : ℕ) → lane < LANES →
+        lane_at lanes.new lane ≡ joined_at gap (lane_at lanes.old lane) }
 {
     for lane in 0..LANES {
         join_in(lanes, lane, gap);
@@ -198,7 +200,16 @@ impl<A: Allocator> Model for Shapes<A> {
 
     ghost Value = { Shown };
 
-    ghost view = { λ s. record { view = s.view; frames = s.frames; waits = s.waits; drops = s.drops; changes = s.changes; next = s.next; accepted = s.accepted; lead = s.lead } };
+    ghost view = { λ s. record {
+      view = s.view;
+      frames = s.frames;
+      waits = s.waits;
+      drops = s.drops;
+      changes = s.changes;
+      next = s.next;
+      accepted = s.accepted;
+      lead = s.lead;
+    } };
 }
 
 impl<A: Allocator> Shapes<A> {
@@ -289,7 +300,8 @@ impl<A: Allocator> Shapes<A> {
     pub fn put_wait(&mut self, class: u8, came: u128, upto: u128)
         requires class { class < WIRE }
         requires within { upto ≤ greatest_moment }
-        ensures { self.new ≡ record self.old { waits = wait_drawn self.old.view class came upto None self.old.waits } }
+        ensures { self.new
+            ≡ record self.old { waits = wait_drawn self.old.view class came upto None self.old.waits } }
     {
         draw_wait(self.view, &mut self.waits, class, came, upto, None);
     }

@@ -60,7 +60,8 @@ fn put_speed<W: Write>(
     mtu: u32,
     end: &[u8],
 ) -> Result<(), WriteFault>
-    ensures { Writes result (W.contents writer.old) (W.contents writer.new) (speed_text megabits mtu end.now) }
+    ensures { Writes result (W.contents writer.old) (W.contents writer.new)
+        (speed_text megabits mtu end.now) }
 {
     put_parts(
         writer,
@@ -77,14 +78,16 @@ fn put_speed<W: Write>(
 
 /// Writes what the picture is called, and what follows.
 fn put_name<W: Write>(writer: &mut W, page: &Page, end: &[u8]) -> Result<(), WriteFault>
-    ensures { Writes result (W.contents writer.old) (W.contents writer.new) (name_text page.now end.now) }
+    ensures { Writes result (W.contents writer.old) (W.contents writer.new)
+        (name_text page.now end.now) }
 {
     put_speed(writer, 8_000_000 / page.rate.ps_per_octet(), page.mtu, end)
 }
 
 /// Writes the beginning of a picture of this size, in pixels.
 fn put_size<W: Write>(writer: &mut W, width: u32, height: u32) -> Result<(), WriteFault>
-    ensures { Writes result (W.contents writer.old) (W.contents writer.new) (size_text width height) }
+    ensures { Writes result (W.contents writer.old) (W.contents writer.new)
+        (size_text width height) }
 {
     let width = Part::Number(u128::from(width));
     let height = Part::Number(u128::from(height));
@@ -127,7 +130,8 @@ fn put_title<W: Write>(writer: &mut W) -> Result<(), WriteFault>
 
 /// Writes the head of the picture: its size, its name and how its parts look.
 fn put_head<W: Write>(writer: &mut W, page: &Page, height: u32) -> Result<(), WriteFault>
-    ensures { Writes result (W.contents writer.old) (W.contents writer.new) (head_text page.now height) }
+    ensures { Writes result (W.contents writer.old) (W.contents writer.new)
+        (head_text page.now height) }
 {
     put_size(writer, page.width(), height)?;
     put_name(writer, page, b"</title>\n")?;
@@ -212,7 +216,8 @@ fn axis_step(page: &Page) -> u128
 
 /// Writes what a tick of the axis says.
 fn put_tick_name<W: Write>(writer: &mut W, number: u128, unit: &[u8]) -> Result<(), WriteFault>
-    ensures { Writes result (W.contents writer.old) (W.contents writer.new) (tick_name number unit.now) }
+    ensures { Writes result (W.contents writer.old) (W.contents writer.new)
+        (tick_name number unit.now) }
 {
     put_parts(
         writer,
@@ -233,7 +238,8 @@ fn put_tick<W: Write>(
     number: u128,
     unit: &[u8],
 ) -> Result<(), WriteFault>
-    ensures { Writes result (W.contents writer.old) (W.contents writer.new) (tick_text page.now x number unit.now) }
+    ensures { Writes result (W.contents writer.old) (W.contents writer.new)
+        (tick_text page.now x number unit.now) }
 {
     put_line(writer, b"g", x, CLASS_TOP - 6, BOTTOM)?;
     let label = page.label(x, digits(number) + 3);
@@ -248,7 +254,8 @@ fn put_tick_at<W: Write>(
     unit: Unit,
     time: u128,
 ) -> Result<(), WriteFault>
-    ensures { Writes result (W.contents writer.old) (W.contents writer.new) (tick_at page.now unit time) }
+    ensures { Writes result (W.contents writer.old) (W.contents writer.new)
+        (tick_at page.now unit time) }
 {
     put_tick(
         writer,
@@ -269,7 +276,8 @@ fn put_ticks<W: Write>(
 ) -> Result<(), WriteFault>
     requires few { last ≤ greatest_moment }
     requires within { last * step ≤ greatest_moment }
-    ensures { Writes result (W.contents writer.old) (W.contents writer.new) (ticks_text page.now step first last) }
+    ensures { Writes result (W.contents writer.old) (W.contents writer.new)
+        (ticks_text page.now step first last) }
 {
     let unit = unit_of(step);
     for tick in first..last + 1 {
@@ -289,7 +297,8 @@ fn put_axis<W: Write>(writer: &mut W, page: &Page) -> Result<(), WriteFault>
 
 /// Writes that the axis counts from so many of a unit.
 fn put_origin_name<W: Write>(writer: &mut W, number: u128, unit: &[u8]) -> Result<(), WriteFault>
-    ensures { Writes result (W.contents writer.old) (W.contents writer.new) (origin_name number unit.now) }
+    ensures { Writes result (W.contents writer.old) (W.contents writer.new)
+        (origin_name number unit.now) }
 {
     put_parts(
         writer,
@@ -374,7 +383,8 @@ fn put_legend_text<W: Write>(
     line: u32,
     text: &[u8],
 ) -> Result<(), WriteFault>
-    ensures { Writes result (W.contents writer.old) (W.contents writer.new) (legend_text x line text.now) }
+    ensures { Writes result (W.contents writer.old) (W.contents writer.new)
+        (legend_text x line text.now) }
 {
     put_parts(
         writer,
@@ -397,7 +407,8 @@ fn put_legend_path<'a, W: Write>(
     x: u32,
     path: &'a [u8],
 ) -> Result<(), WriteFault>
-    ensures { Writes result (W.contents writer.old) (W.contents writer.new) (legend_path look.now x path.now) }
+    ensures { Writes result (W.contents writer.old) (W.contents writer.new)
+        (legend_path look.now x path.now) }
 {
     put_parts(
         writer,
@@ -424,7 +435,8 @@ fn put_legend_rect<'a, W: Write>(
 ) -> Result<(), WriteFault>
     requires x { x ≤ MAX_WIDTH }
     requires line { 10 ≤ line }
-    ensures { Writes result (W.contents writer.old) (W.contents writer.new) (legend_rect look.now x line text.now) }
+    ensures { Writes result (W.contents writer.old) (W.contents writer.new)
+        (legend_rect look.now x line text.now) }
 {
     put_rect(writer, look, u64::from(x) * 100, 2_200, line - 10, 12)?;
     put_legend_text(writer, x + 28, line, text)
@@ -440,7 +452,8 @@ fn put_legend_mark<'a, W: Write>(
     text: &'a [u8],
 ) -> Result<(), WriteFault>
     requires { x + gap ≤ MAX_WIDTH }
-    ensures { Writes result (W.contents writer.old) (W.contents writer.new) (legend_mark look.now x path.now gap text.now) }
+    ensures { Writes result (W.contents writer.old) (W.contents writer.new)
+        (legend_mark look.now x path.now gap text.now) }
 {
     put_legend_path(writer, look, x, path)?;
     put_legend_text(writer, x + gap, LEGEND, text)
@@ -501,7 +514,8 @@ fn put_class_bands<A: Allocator, W: Write>(
     class: u8,
 ) -> Result<(), WriteFault>
     requires { class < WIRE }
-    ensures { Writes result (W.contents writer.old) (W.contents writer.new) (class_bands page.now bands.now class) }
+    ensures { Writes result (W.contents writer.old) (W.contents writer.new)
+        (class_bands page.now bands.now class) }
 {
     let top = lane_top(class);
     let shapes = bands.lane(class);
@@ -516,7 +530,8 @@ fn put_all_bands<A: Allocator, W: Write>(
     page: &Page,
     bands: &Bands<A>,
 ) -> Result<(), WriteFault>
-    ensures { Writes result (W.contents writer.old) (W.contents writer.new) (all_bands page.now bands.now) }
+    ensures { Writes result (W.contents writer.old) (W.contents writer.new)
+        (all_bands page.now bands.now) }
 {
     for class in 0..WIRE {
         put_class_bands(writer, page, bands, class)?;
@@ -532,7 +547,8 @@ fn put_lane<A: Allocator, W: Write>(
     shapes: &Shapes<A>,
 ) -> Result<(), WriteFault>
     requires { lane < LANES }
-    ensures { Writes result (W.contents writer.old) (W.contents writer.new) (lane_text page.now shapes.now lane) }
+    ensures { Writes result (W.contents writer.old) (W.contents writer.new)
+        (lane_text page.now shapes.now lane) }
 {
     let top = lane_top(lane);
     put_waits(writer, page, top, shapes.waits(lane))?;
@@ -546,7 +562,8 @@ fn put_lanes<A: Allocator, W: Write>(
     page: &Page,
     shapes: &Shapes<A>,
 ) -> Result<(), WriteFault>
-    ensures { Writes result (W.contents writer.old) (W.contents writer.new) (lanes_text page.now shapes.now) }
+    ensures { Writes result (W.contents writer.old) (W.contents writer.new)
+        (lanes_text page.now shapes.now) }
 {
     for lane in 0..LANES {
         put_lane(writer, page, lane, shapes)?;
@@ -556,7 +573,8 @@ fn put_lanes<A: Allocator, W: Write>(
 
 /// Writes what lies behind the marks: the head, the axis and the names of the lanes.
 fn put_ground<W: Write>(writer: &mut W, page: &Page, height: u32) -> Result<(), WriteFault>
-    ensures { Writes result (W.contents writer.old) (W.contents writer.new) (ground_text page.now height) }
+    ensures { Writes result (W.contents writer.old) (W.contents writer.new)
+        (ground_text page.now height) }
 {
     put_head(writer, page, height)?;
     put_axis(writer, page)?;
@@ -571,7 +589,8 @@ fn put_marks<A: Allocator, W: Write>(
     bands: &Bands<A>,
     shapes: &Shapes<A>,
 ) -> Result<(), WriteFault>
-    ensures { Writes result (W.contents writer.old) (W.contents writer.new) (marks_text page.now bands.now shapes.now) }
+    ensures { Writes result (W.contents writer.old) (W.contents writer.new)
+        (marks_text page.now bands.now shapes.now) }
 {
     put_all_bands(writer, page, bands)?;
     put_lanes(writer, page, shapes)?;
@@ -601,7 +620,8 @@ pub fn put_picture<A: Allocator, W: Write>(
     bands: &Bands<A>,
     shapes: &Shapes<A>,
 ) -> Result<(), WriteFault>
-    ensures { Writes result (W.contents writer.old) (W.contents writer.new) (picture_text page.now bands.now shapes.now) }
+    ensures { Writes result (W.contents writer.old) (W.contents writer.new)
+        (picture_text page.now bands.now shapes.now) }
 {
     let mixed = has_mixed(page, bands);
     put_ground(writer, page, height_of(mixed))?;

@@ -28,8 +28,11 @@ fn count_bands<A: Allocator>(bands: &Bands<A>) -> usize
 /// number of shapes, and a short one shows each.
 pub fn fit<A: Allocator>(bands: &Bands<A>, course: &mut Course<A>, viewport: &Viewport)
     ensures bounded { bands_to WIRE bands.now.classes bands.now.mixed ≤ 2 * WIRE * MOST_SHAPES }
-    ensures few { bands_to WIRE bands.now.classes bands.now.mixed + shape_count course.old.shown ≤ MOST_APART → course.new ≡ course.old }
-    ensures shapes { MOST_APART < bands_to WIRE bands.now.classes bands.now.mixed + shape_count course.old.shown → IsJoined (pixel_of viewport.now) course.old.shown course.new.shown }
+    ensures few { bands_to WIRE bands.now.classes bands.now.mixed + shape_count course.old.shown
+        ≤ MOST_APART → course.new ≡ course.old }
+    ensures shapes { MOST_APART
+        < bands_to WIRE bands.now.classes bands.now.mixed + shape_count course.old.shown →
+        IsJoined (pixel_of viewport.now) course.old.shown course.new.shown }
 {
     let count = count_bands(bands) + course.shapes().count();
     if count > MOST_APART {

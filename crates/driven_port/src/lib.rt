@@ -81,7 +81,8 @@ impl DrivenPort {
     pub fn new(alloc: Global, mbps: u32, mtu: u32, room: u32) -> Result<DrivenPort, OpenFault>
         ensures ok { IfOk result (λ p. IfOk (rate_of mbps) (λ ps. p ≡ new_port ps mtu room)) }
         ensures refused { IfSome (open_refusal mbps mtu room) (λ fault. result ≡ Err fault) }
-        ensures memory { IfNone (open_refusal mbps mtu room) (IfErr result (λ fault. fault ≡ OpenFault.Memory)) }
+        ensures memory { IfNone (open_refusal mbps mtu room)
+            (IfErr result (λ fault. fault ≡ OpenFault.Memory)) }
     {
         if let Some(fault) = open_refusal(mbps, mtu, room) {
             return Err(fault);

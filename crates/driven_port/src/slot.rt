@@ -47,7 +47,8 @@ fn open_reason(fault: OpenFault) -> u32
 fn boxed(alloc: Global, mbps: u32, mtu: u32, room: u32) -> Result<Box<DrivenPort>, OpenFault>
     ensures ok { IfOk result (λ b. IfOk (rate_of mbps) (λ ps. b.value ≡ new_port ps mtu room)) }
     ensures refused { IfSome (open_refusal mbps mtu room) (λ fault. result ≡ Err fault) }
-    ensures memory { IfNone (open_refusal mbps mtu room) (IfErr result (λ fault. fault ≡ OpenFault.Memory)) }
+    ensures memory { IfNone (open_refusal mbps mtu room)
+        (IfErr result (λ fault. fault ≡ OpenFault.Memory)) }
 {
     let port = DrivenPort::new(alloc, mbps, mtu, room)?;
     match Box::new(alloc, port) {
@@ -60,8 +61,11 @@ impl PortSlot {
     /// A place with a new port, or without one; the answer says which.
     pub fn new(alloc: Global, mbps: u32, mtu: u32, room: u32, told: &mut CAnswer) -> PortSlot
         ensures port { result ≡ opened_at mbps mtu room told.new.kind }
-        ensures refused { IfSome (open_refusal mbps mtu room) (λ fault. told.new ≡ record (answer 10) { reason = open_reason fault }) }
-        ensures memory { IfNone (open_refusal mbps mtu room) ((told.new ≡ answer 9) ⊎ (told.new ≡ record (answer 10) { reason = open_reason OpenFault.Memory })) }
+        ensures refused { IfSome (open_refusal mbps mtu room)
+            (λ fault. told.new ≡ record (answer 10) { reason = open_reason fault }) }
+        ensures memory { IfNone (open_refusal mbps mtu room)
+            ((told.new ≡ answer 9)
+            ⊎ (told.new ≡ record (answer 10) { reason = open_reason OpenFault.Memory })) }
     {
         match boxed(alloc, mbps, mtu, room) {
             Ok(port) => {

@@ -96,7 +96,8 @@ fn put_in<A: Allocator + Clone>(
     arrival: Arrival,
 ) -> Result<(), AllocError>
     requires { class < CLASSES }
-    ensures { OnOk result (classes.new ≡ slice_set classes.old class (waiting_in classes.old class ++ arrival ∷ [])) }
+    ensures { OnOk result
+        (classes.new ≡ slice_set classes.old class (waiting_in classes.old class ++ arrival ∷ [])) }
 {
     classes[class as usize].put(arrival)
 }
@@ -105,7 +106,8 @@ fn put_in<A: Allocator + Clone>(
 fn take_from<A: Allocator>(classes: &mut [ClassArrivals<A>; CLASSES], class: u8) -> Option<Arrival>
     requires { class < CLASSES }
     ensures first { result ≡ slice_get (waiting_in classes.old class) 0 }
-    ensures rest { classes.new ≡ slice_set classes.old class (drop 1 (waiting_in classes.old class)) }
+    ensures rest { classes.new
+        ≡ slice_set classes.old class (drop 1 (waiting_in classes.old class)) }
 {
     classes[class as usize].take()
 }

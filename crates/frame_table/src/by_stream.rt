@@ -41,10 +41,14 @@ fn put_with<A: Allocator, B: Allocator, R: Read + Drop, W: Write, H: Watch>(
     settings: Settings,
     watch: &mut H,
 ) -> Result<(), StreamsFault>
-    ensures table { (read : List (List ℕ) → Result Command TcFault) → IsReader read → IfSome (R.remaining reader) (λ input.
-        RunsOut result (W.contents writer.old) (W.contents writer.new) (of_script (frames_by streams.now read settings input))) }
-    ensures alerts { (read : List (List ℕ) → Result Command TcFault) → IsReader read → IfSome (R.remaining reader) (λ input.
-        WatchedRun H.alerted (frames_alerts streams.now read settings input) result watch.old watch.new) }
+    ensures table { (read : List (List ℕ) → Result Command TcFault) → IsReader read →
+        IfSome (R.remaining reader)
+        (λ input. RunsOut result (W.contents writer.old) (W.contents writer.new)
+        (of_script (frames_by streams.now read settings input))) }
+    ensures alerts { (read : List (List ℕ) → Result Command TcFault) → IsReader read →
+        IfSome (R.remaining reader)
+        (λ input. WatchedRun H.alerted
+        (frames_alerts streams.now read settings input) result watch.old watch.new) }
 {
     let run = run_with(alloc, streams, reader, writer, settings, watch);
     script_run(run)
@@ -59,11 +63,14 @@ fn put_by_stream<A: Allocator, B: Allocator, R: Read + Drop, S: Read + Drop, W: 
     settings: Settings,
     watch: &mut H,
 ) -> Result<(), StreamsFault>
-    ensures table { (read : List (List ℕ) → Result Command TcFault) → IsReader read
-        → IfSome (script_left S.remaining table.old) (λ streams. IfSome (R.remaining reader) (λ input.
-        RunsOut result (W.contents writer.old) (W.contents writer.new) (frames_in (ids_table streams) read settings input))) }
-    ensures alerts { (read : List (List ℕ) → Result Command TcFault) → IsReader read
-        → IfSome (script_left S.remaining table.old) (λ streams. IfSome (R.remaining reader) (λ input.
+    ensures table { (read : List (List ℕ) → Result Command TcFault) → IsReader read →
+        IfSome (script_left S.remaining table.old)
+        (λ streams. IfSome (R.remaining reader) (λ input.
+        RunsOut result (W.contents writer.old) (W.contents writer.new)
+        (frames_in (ids_table streams) read settings input))) }
+    ensures alerts { (read : List (List ℕ) → Result Command TcFault) → IsReader read →
+        IfSome (script_left S.remaining table.old)
+        (λ streams. IfSome (R.remaining reader) (λ input.
         WatchedRun H.alerted (alerts_in streams read settings input) result watch.old watch.new)) }
 {
     let mut streams = Streams::new(alloc);
@@ -93,10 +100,13 @@ pub fn run_frames_by_stream<A: Allocator, R: Read + Drop, S: Read + Drop, W: Wri
     settings: Settings,
     watch: &mut H,
 ) -> Result<(), StreamsFault>
-    ensures table { (read : List (List ℕ) → Result Command TcFault) → IsReader read
-        → IfSome (S.remaining table) (λ streams. IfSome (R.remaining reader) (λ input.
-        RunsOut result (W.contents writer.old) (W.contents writer.new) (frames_by_stream read settings streams input))) }
-    ensures watched { IsWatchedByStream H.alerted settings (S.remaining table) (R.remaining reader) result watch.old watch.new }
+    ensures table { (read : List (List ℕ) → Result Command TcFault) → IsReader read →
+        IfSome (S.remaining table)
+        (λ streams. IfSome (R.remaining reader) (λ input.
+        RunsOut result (W.contents writer.old) (W.contents writer.new)
+        (frames_by_stream read settings streams input))) }
+    ensures watched { IsWatchedByStream H.alerted settings (S.remaining table)
+        (R.remaining reader) result watch.old watch.new }
 {
     let mut lines = LineReader::new(&alloc, table)?;
     put_by_stream(&alloc, &mut lines, reader, writer, settings, watch)

@@ -35,9 +35,13 @@ fn finish<A: Allocator + Clone, B: Allocator, C: Allocator, W: Write, H: Watch>(
     watch: &mut H,
 ) -> Result<(), RunFault>
     requires { is_too_late until ≡ false }
-    ensures { (read : List (List ℕ) → Result Command TcFault) → IsReader read → (first : Place H) (all : List Request)
-        → Stands H.alerted streams.now first all (to_run_end until (requests_of (lines_left read script.now cursor.old))) (place port.old.port arrivals.old (W.contents writer.old) watch.old) →
-        EndsHere H.alerted streams.now result first all (place port.new.port arrivals.new (W.contents writer.new) watch.new) }
+    ensures { (read : List (List ℕ) → Result Command TcFault) → IsReader read →
+        (first : Place H) (all : List Request) →
+        Stands H.alerted streams.now first all
+        (to_run_end until (requests_of (lines_left read script.now cursor.old)))
+        (place port.old.port arrivals.old (W.contents writer.old) watch.old) →
+        EndsHere H.alerted streams.now result first all
+        (place port.new.port arrivals.new (W.contents writer.new) watch.new) }
 {
     take_lines(
         port,
@@ -68,11 +72,19 @@ fn run<A: Allocator + Clone, B: Allocator, C: Allocator, D: Allocator, R: Read, 
     requires until { is_too_late until ≡ false }
     requires begun { (left records.old).ended ≡ None }
     requires first { (left records.old).number ≡ 0 }
-    ensures table { (read : List (List ℕ) → Result Command TcFault) → IsReader read → (entries : List Entry) (last : End) → Comes R.remaining (left records.old) entries last →
+    ensures table { (read : List (List ℕ) → Result Command TcFault) → IsReader read →
+        (entries : List Entry) (last : End) → Comes R.remaining (left records.old) entries last →
         RunsBoth entries last result (W.contents writer.old) (W.contents writer.new)
-        (with_head streams.now (table_by streams.now (all_requests (kept_requests read script.now.octets.items script.now.lines.items) entries until) None port.old.port arrivals.old)) }
-    ensures alerts { (read : List (List ℕ) → Result Command TcFault) → IsReader read → (entries : List Entry) (last : End) → Comes R.remaining (left records.old) entries last →
-        Alerting H.alerted (asked_alerts streams.now (all_requests (kept_requests read script.now.octets.items script.now.lines.items) entries until) None port.old.port arrivals.old) result watch.old watch.new }
+        (with_head streams.now
+        (table_by streams.now
+        (all_requests
+        (kept_requests read script.now.octets.items script.now.lines.items) entries until) None port.old.port arrivals.old)) }
+    ensures alerts { (read : List (List ℕ) → Result Command TcFault) → IsReader read →
+        (entries : List Entry) (last : End) → Comes R.remaining (left records.old) entries last →
+        Alerting H.alerted
+        (asked_alerts streams.now
+        (all_requests
+        (kept_requests read script.now.octets.items script.now.lines.items) entries until) None port.old.port arrivals.old) result watch.old watch.new }
 {
     // For the prover: a call on a port says what holds of every port.
     let _now = port.now();
@@ -126,11 +138,20 @@ fn put_table<A: Allocator, B: Allocator, C: Allocator, R: Read, W: Write, H: Wat
     requires until { is_too_late settings.until ≡ false }
     requires begun { (left records.old).ended ≡ None }
     requires first { (left records.old).number ≡ 0 }
-    ensures table { (read : List (List ℕ) → Result Command TcFault) → IsReader read → (entries : List Entry) (last : End) → Comes R.remaining (left records.old) entries last →
+    ensures table { (read : List (List ℕ) → Result Command TcFault) → IsReader read →
+        (entries : List Entry) (last : End) → Comes R.remaining (left records.old) entries last →
         RunsOut result (W.contents writer.old) (W.contents writer.new)
-        (record { text = (table_of_both settings (kept_requests read script.now.octets.items script.now.lines.items) entries).text; fault = end_fault (length entries) last }) }
-    ensures alerts { (read : List (List ℕ) → Result Command TcFault) → IsReader read → (entries : List Entry) (last : End) → Comes R.remaining (left records.old) entries last →
-        WatchedRun H.alerted (records_alerts settings (kept_requests read script.now.octets.items script.now.lines.items) (Ok (entries, last))) result watch.old watch.new }
+        (record {
+          text =
+              (table_of_both settings
+              (kept_requests read script.now.octets.items script.now.lines.items) entries).text;
+          fault = end_fault (length entries) last;
+        }) }
+    ensures alerts { (read : List (List ℕ) → Result Command TcFault) → IsReader read →
+        (entries : List Entry) (last : End) → Comes R.remaining (left records.old) entries last →
+        WatchedRun H.alerted
+        (records_alerts settings (kept_requests read script.now.octets.items script.now.lines.items)
+        (Ok (entries, last))) result watch.old watch.new }
 {
     let rate = settings.rate();
     // For the prover: the getter says within which limits a rate lies.
@@ -174,10 +195,16 @@ pub fn run_frames_of_capture<A: Allocator, R: Read + Drop, S: Read + Drop, W: Wr
     settings: Settings,
     watch: &mut H,
 ) -> Result<(), ReplayFault>
-    ensures table { (read : List (List ℕ) → Result Command TcFault) → IsReader read → IfSome (R.remaining script) (λ lines. IfSome (S.remaining capture) (λ octets.
-        (records : Result (List Entry × End) CapFault) → ReadsAs octets records → RunsOut result (W.contents writer.old) (W.contents writer.new) (frames_of_capture read settings lines records))) }
-    ensures watched { IsWatchedCapture H.alerted settings (R.remaining script) (S.remaining capture) result watch.old watch.new }
-    ensures late { is_too_late settings.until ≡ true → (result ≡ Err (Faults.Input Inputs.Until)) × (writer.new ≡ writer.old) }
+    ensures table { (read : List (List ℕ) → Result Command TcFault) → IsReader read →
+        IfSome (R.remaining script)
+        (λ lines. IfSome (S.remaining capture) (λ octets.
+        (records : Result (List Entry × End) CapFault) → ReadsAs octets records →
+        RunsOut result (W.contents writer.old) (W.contents writer.new)
+        (frames_of_capture read settings lines records))) }
+    ensures watched { IsWatchedCapture H.alerted settings (R.remaining script)
+        (S.remaining capture) result watch.old watch.new }
+    ensures late { is_too_late settings.until ≡ true →
+        (result ≡ Err (Faults.Input Inputs.Until)) × (writer.new ≡ writer.old) }
 {
     if is_too_late(settings.until()) {
         return Err(ReplayFault::Input(ReplayInput::Until));

@@ -26,10 +26,15 @@ pub fn answer_frames<A: Allocator, B: Allocator, R: Read, W: Write + Drop, E: Er
     errors: &mut E,
     watch: &mut H,
 ) -> (Ended, W)
-    ensures ending { IsEnding whole_frames (settings_given greatest_moment (words_of_values values.entry))
-        (R.remaining reader.old) result.0 (writer_contents W.contents answers) (W.contents result.1) (E.contents errors.old) (E.contents errors.new) }
-    ensures watched { IsWatchedEnding H.alerted (settings_given greatest_moment (words_of_values values.entry)) (R.remaining reader.old) result.0 watch.old watch.new }
-    ensures unread { IfErr (settings_given greatest_moment (words_of_values values.entry)) (λ _. reader.new ≡ reader.old) }
+    ensures ending { IsEnding whole_frames
+        (settings_given greatest_moment (words_of_values values.entry))
+        (R.remaining reader.old) result.0 (writer_contents W.contents answers) (W.contents result.1)
+        (E.contents errors.old) (E.contents errors.new) }
+    ensures watched { IsWatchedEnding H.alerted
+        (settings_given greatest_moment (words_of_values values.entry))
+        (R.remaining reader.old) result.0 watch.old watch.new }
+    ensures unread { IfErr (settings_given greatest_moment (words_of_values values.entry))
+        (λ _. reader.new ≡ reader.old) }
 {
     match settings_given(values, MAX_MOMENT) {
         Ok(settings) => {
@@ -61,8 +66,11 @@ pub fn answer_frames_of_capture<
     errors: &mut E,
     watch: &mut H,
 ) -> (Ended, W)
-    ensures watched { IsWatchedCaptureEnding H.alerted settings (R.remaining reader.old) (S.remaining capture) result.0 watch.old watch.new }
-    ensures ending { IsCaptureEnding settings (R.remaining reader.old) (S.remaining capture) result.0 (writer_contents W.contents answers) (W.contents result.1) (E.contents errors.old) (E.contents errors.new) }
+    ensures watched { IsWatchedCaptureEnding H.alerted settings (R.remaining reader.old)
+        (S.remaining capture) result.0 watch.old watch.new }
+    ensures ending { IsCaptureEnding settings (R.remaining reader.old)
+        (S.remaining capture) result.0 (writer_contents W.contents answers) (W.contents result.1)
+        (E.contents errors.old) (E.contents errors.new) }
 {
     let run = run_frames_of_capture(alloc, reader, capture, &mut answers, settings, watch);
     end_run(run, answers, errors)
@@ -87,8 +95,11 @@ pub fn answer_frames_by_stream<
     errors: &mut E,
     watch: &mut H,
 ) -> (Ended, W)
-    ensures watched { IsWatchedByStreamEnding H.alerted settings (S.remaining table) (R.remaining reader.old) result.0 watch.old watch.new }
-    ensures ending { IsByStreamEnding settings (S.remaining table) (R.remaining reader.old) result.0 (writer_contents W.contents answers) (W.contents result.1) (E.contents errors.old) (E.contents errors.new) }
+    ensures watched { IsWatchedByStreamEnding H.alerted settings (S.remaining table)
+        (R.remaining reader.old) result.0 watch.old watch.new }
+    ensures ending { IsByStreamEnding settings (S.remaining table) (R.remaining reader.old) result.0
+        (writer_contents W.contents answers) (W.contents result.1) (E.contents errors.old)
+        (E.contents errors.new) }
 {
     let run = run_frames_by_stream(alloc, table, reader, &mut answers, settings, watch);
     end_run(run, answers, errors)

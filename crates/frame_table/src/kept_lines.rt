@@ -25,7 +25,9 @@ fn take_line<A: Allocator + Clone, B: Allocator, C: Allocator, W: Write, H: Watc
 ) -> Result<(), RunFault>
     requires { IsKept script.now.octets.items line }
     ensures { (read : List (List ℕ) → Result Command TcFault) → IsReader read →
-        Carries H.alerted streams.now result (kept_request read script.now.octets.items line ∷ []) (place port.old.port arrivals.old (W.contents writer.old) watch.old) (place port.new.port arrivals.new (W.contents writer.new) watch.new) }
+        Carries H.alerted streams.now result (kept_request read script.now.octets.items line ∷ [])
+        (place port.old.port arrivals.old (W.contents writer.old) watch.old)
+        (place port.new.port arrivals.new (W.contents writer.new) watch.new) }
 {
     // For the prover: a call on a port says what holds of every port.
     let _now = port.now();
@@ -69,9 +71,14 @@ pub(crate) fn take_lines<A: Allocator + Clone, B: Allocator, C: Allocator, W: Wr
     watch: &mut H,
 ) -> Result<(), RunFault>
     ensures left { (read : List (List ℕ) → Result Command TcFault) → IsReader read →
-        OnOk result (lines_left read script.now cursor.new ≡ lines_past upto (lines_left read script.now cursor.old)) }
+        OnOk result
+        (lines_left read script.now cursor.new
+        ≡ lines_past upto (lines_left read script.now cursor.old)) }
     ensures rows { (read : List (List ℕ) → Result Command TcFault) → IsReader read →
-        Carries H.alerted streams.now result (requests_of (lines_by upto (lines_left read script.now cursor.old))) (place port.old.port arrivals.old (W.contents writer.old) watch.old) (place port.new.port arrivals.new (W.contents writer.new) watch.new) }
+        Carries H.alerted streams.now result
+        (requests_of (lines_by upto (lines_left read script.now cursor.old)))
+        (place port.old.port arrivals.old (W.contents writer.old) watch.old)
+        (place port.new.port arrivals.new (W.contents writer.new) watch.new) }
 {
     while let Some(line) = line_by(script, cursor, upto) {
         take_line(port, arrivals, script, line, streams, writer, watch)?;

@@ -28,7 +28,10 @@ fn take_record<A: Allocator + Clone, B: Allocator, W: Write, H: Watch>(
     writer: &mut W,
     watch: &mut H,
 ) -> Result<(), RunFault>
-    ensures { Carries H.alerted streams.now result (Asks (Clock moment) ∷ Asks (Arrive (frame_of (entry record.now) number)) ∷ []) (place port.old.port arrivals.old (W.contents writer.old) watch.old) (place port.new.port arrivals.new (W.contents writer.new) watch.new) }
+    ensures { Carries H.alerted streams.now result
+        (Asks (Clock moment) ∷ Asks (Arrive (frame_of (entry record.now) number)) ∷ [])
+        (place port.old.port arrivals.old (W.contents writer.old) watch.old)
+        (place port.new.port arrivals.new (W.contents writer.new) watch.new) }
 {
     // For the prover: a call on a port says what holds of every port.
     let _now = port.now();
@@ -102,8 +105,12 @@ pub(crate) fn take_records<
 ) -> Result<Option<(u32, CapFault)>, RunFault>
     requires begun { (left records.old).ended ≡ None }
     requires first { (left records.old).number ≡ 0 }
-    ensures { (read : List (List ℕ) → Result Command TcFault) → IsReader read → (entries : List Entry) (last : End) → Comes R.remaining (left records.old) entries last →
-        TakesRecords H.alerted streams.now entries last (lines_left read script.now cursor.old) (lines_left read script.now cursor.new) result (place port.old.port arrivals.old (W.contents writer.old) watch.old) (place port.new.port arrivals.new (W.contents writer.new) watch.new) }
+    ensures { (read : List (List ℕ) → Result Command TcFault) → IsReader read →
+        (entries : List Entry) (last : End) → Comes R.remaining (left records.old) entries last →
+        TakesRecords H.alerted streams.now entries last (lines_left read script.now cursor.old)
+        (lines_left read script.now cursor.new) result
+        (place port.old.port arrivals.old (W.contents writer.old) watch.old)
+        (place port.new.port arrivals.new (W.contents writer.new) watch.new) }
 {
     let mut latest = 0u128;
     let mut number = 0u32;

@@ -58,9 +58,11 @@ impl<A: Allocator + Clone, B: Allocator, W: Write> Observer<W> for RowWriter<'_,
     ghost use Rattle.frame_table.specs.ToldRows.{Kept, RowedFront, kept_both, kept_later, none_rowed, rowed_here, rowed_sooner};
     ghost use Rattle.std.proofs.Common.{refl};
 
-    ghost heard = { λ told s w t v. Kept s.streams.now t.streams.now told s.arrivals (W.contents w) t.arrivals (W.contents v) };
+    ghost heard = { λ told s w t v. Kept s.streams.now t.streams.now told s.arrivals
+        (W.contents w) t.arrivals (W.contents v) };
 
-    ghost cut = { λ told s w t v. RowedFront s.streams.now told s.arrivals (W.contents w) (W.contents v) };
+    ghost cut = { λ told s w t v. RowedFront s.streams.now told s.arrivals (W.contents w)
+        (W.contents v) };
 
     fn frame_queued(
         &mut self,
@@ -147,9 +149,11 @@ impl<A: Allocator + Clone, B: Allocator, W: Write> Observer<W> for RowWriter<'_,
 
     ghost cut_later = { λ xs ys s t u w v x. kept_later xs ys s.streams.now t.streams.now s.arrivals t.arrivals (W.contents w) (W.contents v) (W.contents x) };
 
-    ghost cut_here = { λ xs ys s t w v a. rowed_here s.streams.now xs ys s.arrivals t.arrivals (W.contents w) (W.contents v) a.1 };
+    ghost cut_here = { λ xs ys s t w v a. rowed_here s.streams.now xs ys s.arrivals t.arrivals
+        (W.contents w) (W.contents v) a.1 };
 
-    ghost cut_sooner = { λ xs ys s t w v. rowed_sooner s.streams.now xs ys s.arrivals (W.contents w) (W.contents v) };
+    ghost cut_sooner = { λ xs ys s t w v. rowed_sooner s.streams.now xs ys s.arrivals (W.contents w)
+        (W.contents v) };
 }
 
 /// Runs to the moment after the input, if there is one, and writes the rows that end the table.
@@ -159,7 +163,8 @@ fn end<A: Allocator + Clone, B: Allocator, W: Write>(
     until: Option<u128>,
     writer: &mut W,
 ) -> Result<(), Halt>
-    ensures { PutsEnd result (W.contents writer.old) (W.contents writer.new) (ending_text rows.old.streams.now until port.old.port rows.old.arrivals) }
+    ensures { PutsEnd result (W.contents writer.old) (W.contents writer.new)
+        (ending_text rows.old.streams.now until port.old.port rows.old.arrivals) }
 {
     walk_on(port, rows, until, writer)?;
     halted(put_all_left(&rows.arrivals, rows.streams, writer, &mut Unwatched))
@@ -181,10 +186,15 @@ pub(crate) fn walk_rows<
     writer: &mut W,
     watch: &mut H,
 ) -> Result<(), RunFault>
-    ensures table { (read : List (List ℕ) → Result Command TcFault) → IsReader read → IfSome (script_left R.remaining lines.old) (λ script.
-        RunsOut result (W.contents writer.old) (W.contents writer.new) (table_from rows.old.streams.now read until script port.old.port rows.old.arrivals)) }
-    ensures alerts { (read : List (List ℕ) → Result Command TcFault) → IsReader read → IfSome (script_left R.remaining lines.old) (λ script.
-        Watched H.alerted (alerts_of (told_of (reading_of read script).requests port.old.port)) result watch.old watch.new) }
+    ensures table { (read : List (List ℕ) → Result Command TcFault) → IsReader read →
+        IfSome (script_left R.remaining lines.old)
+        (λ script. RunsOut result (W.contents writer.old) (W.contents writer.new)
+        (table_from rows.old.streams.now read until script port.old.port rows.old.arrivals)) }
+    ensures alerts { (read : List (List ℕ) → Result Command TcFault) → IsReader read →
+        IfSome (script_left R.remaining lines.old)
+        (λ script. Watched H.alerted
+        (alerts_of
+        (told_of (reading_of read script).requests port.old.port)) result watch.old watch.new) }
 {
     settling();
     // For the prover: a call on a port says what holds of every port.

@@ -147,7 +147,8 @@ pub(crate) fn put_head<A: Allocator, W: Write>(
     streams: &Option<Streams<A>>,
     writer: &mut W,
 ) -> Result<(), WriteFault>
-    ensures { Writes result (W.contents writer.old) (W.contents writer.new) (head_line streams.now) }
+    ensures { Writes result (W.contents writer.old) (W.contents writer.new)
+        (head_line streams.now) }
 {
     put(writer, head_text(streams))
 }
@@ -160,7 +161,8 @@ fn put_fields<A: Allocator, W: Write>(
     row: &FrameRow,
 ) -> Result<(), WriteFault>
     requires { stream.now ≡ stream_by streams.now row.now.arrival.id }
-    ensures { Writes result (W.contents writer.old) (W.contents writer.new) (row_line streams.now row.now) }
+    ensures { Writes result (W.contents writer.old) (W.contents writer.new)
+        (row_line streams.now row.now) }
 {
     put_parts(
         writer,
@@ -194,7 +196,8 @@ pub(crate) fn write_row<A: Allocator, W: Write>(
     writer: &mut W,
     row: &FrameRow,
 ) -> Result<(), WriteFault>
-    ensures { Writes result (W.contents writer.old) (W.contents writer.new) (row_line streams.now row.now) }
+    ensures { Writes result (W.contents writer.old) (W.contents writer.new)
+        (row_line streams.now row.now) }
 {
     let stream = stream_by(streams, row.arrival.id);
     put_fields(streams, &stream, writer, row)
@@ -208,8 +211,10 @@ pub(crate) fn put_row<A: Allocator, W: Write, H: Watch>(
     row: &FrameRow,
     watch: &mut H,
 ) -> Result<(), WriteFault>
-    ensures text { Writes result (W.contents writer.old) (W.contents writer.new) (row_line streams.now row.now) }
-    ensures alerts { Alerting H.alerted (judged_row streams.now row.now) result watch.old watch.new }
+    ensures text { Writes result (W.contents writer.old) (W.contents writer.new)
+        (row_line streams.now row.now) }
+    ensures alerts { Alerting H.alerted
+        (judged_row streams.now row.now) result watch.old watch.new }
 {
     let stream = stream_by(streams, row.arrival.id);
     put_fields(streams, &stream, writer, row)?;

@@ -28,9 +28,13 @@ fn take_frame<A: Allocator + Clone, B: Allocator, W: Write, H: Watch>(
     writer: &mut W,
     watch: &mut H,
 ) -> Result<(), RunFault>
-    ensures text { Runs result (W.contents writer.old) (W.contents writer.new) (rows_told streams.now (Arrive frame.now) port.old.port arrivals.old) }
-    ensures alerts { Alerting H.alerted (request_alerts streams.now (Asks (Arrive frame.now)) port.old.port arrivals.old) result watch.old watch.new }
-    ensures after { IsAfter (Arrive frame.now) result port.old.port arrivals.old port.new.port arrivals.new }
+    ensures text { Runs result (W.contents writer.old) (W.contents writer.new)
+        (rows_told streams.now (Arrive frame.now) port.old.port arrivals.old) }
+    ensures alerts { Alerting H.alerted
+        (request_alerts streams.now
+        (Asks (Arrive frame.now)) port.old.port arrivals.old) result watch.old watch.new }
+    ensures after { IsAfter
+        (Arrive frame.now) result port.old.port arrivals.old port.new.port arrivals.new }
 {
     let now = port.now();
     let arrival = Arrival {
@@ -71,8 +75,11 @@ fn put_sent<A: Allocator, B: Allocator, W: Write, H: Watch>(
     writer: &mut W,
     watch: &mut H,
 ) -> Result<(), WriteFault>
-    ensures text { Writes result (W.contents writer.old) (W.contents writer.new) (rows_text streams.now (sent_row start.now (first_came start.now.class arrivals.old))) }
-    ensures alerts { Alerting H.alerted (judged_rows streams.now (sent_row start.now (first_came start.now.class arrivals.old))) result watch.old watch.new }
+    ensures text { Writes result (W.contents writer.old) (W.contents writer.new)
+        (rows_text streams.now (sent_row start.now (first_came start.now.class arrivals.old))) }
+    ensures alerts { Alerting H.alerted
+        (judged_rows streams.now
+        (sent_row start.now (first_came start.now.class arrivals.old))) result watch.old watch.new }
     ensures waiting { arrivals.new ≡ goes start.now.class arrivals.old }
 {
     match arrivals.take(start.class) {
@@ -102,9 +109,13 @@ fn take_starts<A: Allocator, B: Allocator, W: Write, H: Watch>(
 ) -> Result<(), WriteFault>
     requires later { port.old.port.now ≤ until }
     requires within { until ≤ greatest_moment }
-    ensures text { Writes result (W.contents writer.old) (W.contents writer.new) (rows_text streams.now (rows_at (Clock until) port.old.port arrivals.old).0) }
-    ensures alerts { Alerting H.alerted (judged_rows streams.now (rows_at (Clock until) port.old.port arrivals.old).0) result watch.old watch.new }
-    ensures after { IsAfter (Clock until) result port.old.port arrivals.old port.new.port arrivals.new }
+    ensures text { Writes result (W.contents writer.old) (W.contents writer.new)
+        (rows_text streams.now (rows_at (Clock until) port.old.port arrivals.old).0) }
+    ensures alerts { Alerting H.alerted
+        (judged_rows streams.now
+        (rows_at (Clock until) port.old.port arrivals.old).0) result watch.old watch.new }
+    ensures after { IsAfter
+        (Clock until) result port.old.port arrivals.old port.new.port arrivals.new }
 {
     // For the prover: a call on a port says what holds of every port.
     let _now = port.now();
@@ -123,9 +134,13 @@ fn take_clock<A: Allocator, B: Allocator, W: Write, H: Watch>(
     writer: &mut W,
     watch: &mut H,
 ) -> Result<(), WriteFault>
-    ensures text { Writes result (W.contents writer.old) (W.contents writer.new) (rows_text streams.now (rows_at (Clock until) port.old.port arrivals.old).0) }
-    ensures alerts { Alerting H.alerted (judged_rows streams.now (rows_at (Clock until) port.old.port arrivals.old).0) result watch.old watch.new }
-    ensures after { IsAfter (Clock until) result port.old.port arrivals.old port.new.port arrivals.new }
+    ensures text { Writes result (W.contents writer.old) (W.contents writer.new)
+        (rows_text streams.now (rows_at (Clock until) port.old.port arrivals.old).0) }
+    ensures alerts { Alerting H.alerted
+        (judged_rows streams.now
+        (rows_at (Clock until) port.old.port arrivals.old).0) result watch.old watch.new }
+    ensures after { IsAfter
+        (Clock until) result port.old.port arrivals.old port.new.port arrivals.new }
 {
     if port.now() <= until && until <= MAX_MOMENT {
         take_starts(port, arrivals, until, streams, writer, watch)
@@ -144,8 +159,11 @@ pub(crate) fn take_event<A: Allocator + Clone, B: Allocator, W: Write, H: Watch>
     writer: &mut W,
     watch: &mut H,
 ) -> Result<(), RunFault>
-    ensures text { Runs result (W.contents writer.old) (W.contents writer.new) (rows_told streams.now event.now port.old.port arrivals.old) }
-    ensures alerts { Alerting H.alerted (request_alerts streams.now (Asks event.now) port.old.port arrivals.old) result watch.old watch.new }
+    ensures text { Runs result (W.contents writer.old) (W.contents writer.new)
+        (rows_told streams.now event.now port.old.port arrivals.old) }
+    ensures alerts { Alerting H.alerted
+        (request_alerts streams.now
+        (Asks event.now) port.old.port arrivals.old) result watch.old watch.new }
     ensures after { IsAfter event.now result port.old.port arrivals.old port.new.port arrivals.new }
 {
     // For the prover: a call on a port says what holds of every port.
@@ -184,10 +202,13 @@ pub(crate) fn take_tc<A: Allocator, H: Watch>(
     watch: &mut H,
 )
     ensures port { (read : List (List ℕ) → Result Command TcFault) → IsReader read →
-        port.new.port ≡ settled (responses_to (tc_request (read (words_of line.now))) port.old.port).1 }
+        port.new.port
+        ≡ settled (responses_to (tc_request (read (words_of line.now))) port.old.port).1 }
     ensures sound { IsSoundPort port.new.port }
     ensures alerts { (read : List (List ℕ) → Result Command TcFault) → IsReader read →
-        H.alerted (alerts_of (told_to (tc_request (read (words_of line.now))) port.old.port)) watch.old watch.new }
+        H.alerted
+        (alerts_of
+        (told_to (tc_request (read (words_of line.now))) port.old.port)) watch.old watch.new }
 {
     // For the prover: a call on a port says what holds of every port.
     let _now = port.now();
@@ -209,8 +230,11 @@ fn put_left_in<A: Allocator, B: Allocator, W: Write, H: Watch>(
     watch: &mut H,
 ) -> Result<(), WriteFault>
     requires { class < CLASSES }
-    ensures text { Writes result (W.contents writer.old) (W.contents writer.new) (rows_text streams.now (map (left_row class) (waiting_in arrivals.now class))) }
-    ensures alerts { Alerting H.alerted (judged_rows streams.now (map (left_row class) (waiting_in arrivals.now class))) result watch.old watch.new }
+    ensures text { Writes result (W.contents writer.old) (W.contents writer.new)
+        (rows_text streams.now (map (left_row class) (waiting_in arrivals.now class))) }
+    ensures alerts { Alerting H.alerted
+        (judged_rows streams.now
+        (map (left_row class) (waiting_in arrivals.now class))) result watch.old watch.new }
 {
     for place in 0..arrivals.len(class) {
         let arrival = arrivals.get(class, place);
@@ -235,8 +259,10 @@ pub(crate) fn put_all_left<A: Allocator, B: Allocator, W: Write, H: Watch>(
     writer: &mut W,
     watch: &mut H,
 ) -> Result<(), WriteFault>
-    ensures text { Writes result (W.contents writer.old) (W.contents writer.new) (rows_text streams.now (left_rows arrivals.now)) }
-    ensures alerts { Alerting H.alerted (judged_rows streams.now (left_rows arrivals.now)) result watch.old watch.new }
+    ensures text { Writes result (W.contents writer.old) (W.contents writer.new)
+        (rows_text streams.now (left_rows arrivals.now)) }
+    ensures alerts { Alerting H.alerted
+        (judged_rows streams.now (left_rows arrivals.now)) result watch.old watch.new }
 {
     for class in 0..CLASSES as u8 {
         put_left_in(arrivals, class, streams, writer, watch)?;
@@ -253,8 +279,10 @@ pub(crate) fn put_end<A: Allocator, B: Allocator, W: Write, H: Watch>(
     writer: &mut W,
     watch: &mut H,
 ) -> Result<(), WriteFault>
-    ensures text { Writes result (W.contents writer.old) (W.contents writer.new) (ending_text streams.now until port.old.port arrivals.old) }
-    ensures alerts { Alerting H.alerted (ending_alerts streams.now until port.old.port arrivals.old) result watch.old watch.new }
+    ensures text { Writes result (W.contents writer.old) (W.contents writer.new)
+        (ending_text streams.now until port.old.port arrivals.old) }
+    ensures alerts { Alerting H.alerted
+        (ending_alerts streams.now until port.old.port arrivals.old) result watch.old watch.new }
 {
     match until {
         None => put_all_left(arrivals, streams, writer, watch),
@@ -275,10 +303,14 @@ fn run_lines<A: Allocator + Clone, B: Allocator, C: Allocator, R: Read + Drop, W
     writer: &mut W,
     watch: &mut H,
 ) -> Result<(), RunFault>
-    ensures table { (read : List (List ℕ) → Result Command TcFault) → IsReader read → IfSome (script_left R.remaining lines.old) (λ script.
-        RunsOut result (W.contents writer.old) (W.contents writer.new) (table_from streams.now read until script port.old.port arrivals.old)) }
-    ensures alerts { (read : List (List ℕ) → Result Command TcFault) → IsReader read → IfSome (script_left R.remaining lines.old) (λ script.
-        WatchedRun H.alerted (alerts_from streams.now read until script port.old.port arrivals.old) result watch.old watch.new) }
+    ensures table { (read : List (List ℕ) → Result Command TcFault) → IsReader read →
+        IfSome (script_left R.remaining lines.old)
+        (λ script. RunsOut result (W.contents writer.old) (W.contents writer.new)
+        (table_from streams.now read until script port.old.port arrivals.old)) }
+    ensures alerts { (read : List (List ℕ) → Result Command TcFault) → IsReader read →
+        IfSome (script_left R.remaining lines.old)
+        (λ script. WatchedRun H.alerted
+        (alerts_from streams.now read until script port.old.port arrivals.old) result watch.old watch.new) }
 {
     settling();
     // For the prover: a call on a port says what holds of every port.
@@ -310,10 +342,14 @@ fn put_lines<A: Allocator + Clone, B: Allocator, C: Allocator, R: Read + Drop, W
     writer: &mut W,
     watch: &mut H,
 ) -> Result<(), RunFault>
-    ensures table { (read : List (List ℕ) → Result Command TcFault) → IsReader read → IfSome (script_left R.remaining lines.old) (λ script.
-        RunsOut result (W.contents writer.old) (W.contents writer.new) (table_from rows.old.streams.now read until script port.old.port rows.old.arrivals)) }
-    ensures alerts { (read : List (List ℕ) → Result Command TcFault) → IsReader read → IfSome (script_left R.remaining lines.old) (λ script.
-        WatchedRun H.alerted (alerts_from rows.old.streams.now read until script port.old.port rows.old.arrivals) result watch.old watch.new) }
+    ensures table { (read : List (List ℕ) → Result Command TcFault) → IsReader read →
+        IfSome (script_left R.remaining lines.old)
+        (λ script. RunsOut result (W.contents writer.old) (W.contents writer.new)
+        (table_from rows.old.streams.now read until script port.old.port rows.old.arrivals)) }
+    ensures alerts { (read : List (List ℕ) → Result Command TcFault) → IsReader read →
+        IfSome (script_left R.remaining lines.old)
+        (λ script. WatchedRun H.alerted
+        (alerts_from rows.old.streams.now read until script port.old.port rows.old.arrivals) result watch.old watch.new) }
 {
     if has_column(rows.streams) {
         let streams = rows.streams;
@@ -339,10 +375,15 @@ fn put_table<A: Allocator + Clone, B: Allocator, C: Allocator, R: Read + Drop, W
     writer: &mut W,
     watch: &mut H,
 ) -> Result<(), RunFault>
-    ensures table { (read : List (List ℕ) → Result Command TcFault) → IsReader read → IfSome (script_left R.remaining lines.old) (λ script.
-        RunsOut result (W.contents writer.old) (W.contents writer.new) (with_head rows.old.streams.now (table_from rows.old.streams.now read until script port.old.port rows.old.arrivals))) }
-    ensures alerts { (read : List (List ℕ) → Result Command TcFault) → IsReader read → IfSome (script_left R.remaining lines.old) (λ script.
-        WatchedRun H.alerted (alerts_from rows.old.streams.now read until script port.old.port rows.old.arrivals) result watch.old watch.new) }
+    ensures table { (read : List (List ℕ) → Result Command TcFault) → IsReader read →
+        IfSome (script_left R.remaining lines.old)
+        (λ script. RunsOut result (W.contents writer.old) (W.contents writer.new)
+        (with_head rows.old.streams.now
+        (table_from rows.old.streams.now read until script port.old.port rows.old.arrivals))) }
+    ensures alerts { (read : List (List ℕ) → Result Command TcFault) → IsReader read →
+        IfSome (script_left R.remaining lines.old)
+        (λ script. WatchedRun H.alerted
+        (alerts_from rows.old.streams.now read until script port.old.port rows.old.arrivals) result watch.old watch.new) }
 {
     put_head(rows.streams, writer)?;
     put_lines(port, rows, lines, until, writer, watch)
@@ -357,9 +398,12 @@ pub(crate) fn run_with<A: Allocator, B: Allocator, R: Read + Drop, W: Write, H: 
     settings: Settings,
     watch: &mut H,
 ) -> Result<(), RunFault>
-    ensures table { (read : List (List ℕ) → Result Command TcFault) → IsReader read → IfSome (R.remaining reader) (λ input.
-        RunsOut result (W.contents writer.old) (W.contents writer.new) (frames_by streams.now read settings input)) }
-    ensures watched { IsWatchedFrames H.alerted streams.now settings (R.remaining reader) result watch.old watch.new }
+    ensures table { (read : List (List ℕ) → Result Command TcFault) → IsReader read →
+        IfSome (R.remaining reader)
+        (λ input. RunsOut result (W.contents writer.old) (W.contents writer.new)
+        (frames_by streams.now read settings input)) }
+    ensures watched { IsWatchedFrames H.alerted streams.now settings
+        (R.remaining reader) result watch.old watch.new }
 {
     let rate = settings.rate();
     // For the prover: the getter says within which limits a rate lies.
@@ -398,9 +442,12 @@ pub fn run_frames<A: Allocator, R: Read + Drop, W: Write, H: Watch>(
     settings: Settings,
     watch: &mut H,
 ) -> Result<(), RunFault>
-    ensures table { (read : List (List ℕ) → Result Command TcFault) → IsReader read → IfSome (R.remaining reader) (λ input.
-        RunsOut result (W.contents writer.old) (W.contents writer.new) (frames_of read settings input)) }
-    ensures watched { IsWatchedFrames H.alerted None settings (R.remaining reader) result watch.old watch.new }
+    ensures table { (read : List (List ℕ) → Result Command TcFault) → IsReader read →
+        IfSome (R.remaining reader)
+        (λ input. RunsOut result (W.contents writer.old) (W.contents writer.new)
+        (frames_of read settings input)) }
+    ensures watched { IsWatchedFrames H.alerted None settings
+        (R.remaining reader) result watch.old watch.new }
 {
     let none: Option<Streams<A>> = None;
     run_with(alloc, &none, reader, writer, settings, watch)

@@ -24,11 +24,20 @@ impl Model for CycleTimer {
 
     ghost Value = { Cycle };
 
-    ghost view = { λ t. record { started = t.started; next_start = t.next_start; length = t.length } };
+    ghost view = { λ t. record {
+      started = t.started;
+      next_start = t.next_start;
+      length = t.length;
+    } };
 
-    ghost invariant = { λ t. (t.started < t.next_start) × (0 < t.length) × (t.length ≤ 4 * greatest_moment) };
+    ghost invariant = { λ t. (t.started < t.next_start) × (0 < t.length)
+        × (t.length ≤ 4 * greatest_moment) };
 
-    ghost inverse = { λ c. record { started = c.started; next_start = c.next_start; length = c.length } };
+    ghost inverse = { λ c. record {
+      started = c.started;
+      next_start = c.next_start;
+      length = c.length;
+    } };
 }
 
 /// How long the whole cycles last that are over after so long. Mostly none is over, and a division takes long.
@@ -100,7 +109,8 @@ impl CycleTimer {
         ensures cycle { self.new ≡ jumped self.old t }
         ensures reached { self.new.started ≤ t }
         ensures holds { t < self.new.next_start }
-        ensures whole { (k : ℕ) → self.old.started + self.old.length * k ≤ t → self.old.started + self.old.length * k ≤ self.new.started }
+        ensures whole { (k : ℕ) → self.old.started + self.old.length * k ≤ t →
+            self.old.started + self.old.length * k ≤ self.new.started }
     {
         self.started += whole_cycles(t - self.started, self.length);
         self.next_start = self.started + self.length;

@@ -85,7 +85,8 @@ pub trait Gates {
         requires sound { is_sound self.now }
         requires later { moment self.now ≤ before }
         requires within { before ≤ greatest_moment }
-        ensures none { MatchOption result (IsSteady (history self.now) (moment self.now) before) (λ u. IsSteady (history self.now) (moment self.now) u) }
+        ensures none { MatchOption result (IsSteady (history self.now) (moment self.now) before)
+            (λ u. IsSteady (history self.now) (moment self.now) u) }
         ensures between { IfSome result (λ u. (moment self.now < u) × (u < before)) }
         ensures event { IfSome result (IsGateEvent (history self.now)) };
 
@@ -97,11 +98,16 @@ pub trait Gates {
         requires within { before ≤ greatest_moment }
         ensures from { moment self.now ≤ result }
         ensures upto { result ≤ before }
-        ensures quiet { (m : ℕ) → moment self.now ≤ m → m < result → first_choice (history self.now) m heads.now ≡ None }
-        ensures onward { result < before → IsSome (first_choice (history self.now) result heads.now) ⊎ ((moment self.now < result) × IsGateEvent (history self.now) result) }
-        ensures first { IsTrue JUMPS → result < before → IsSome (first_choice (history self.now) result heads.now) }
+        ensures quiet { (m : ℕ) → moment self.now ≤ m → m < result →
+            first_choice (history self.now) m heads.now ≡ None }
+        ensures onward { result < before →
+            IsSome (first_choice (history self.now) result heads.now)
+            ⊎ ((moment self.now < result) × IsGateEvent (history self.now) result) }
+        ensures first { IsTrue JUMPS → result < before →
+            IsSome (first_choice (history self.now) result heads.now) }
         ensures counted { visits.old ≤ visits.new }
-        ensures visits { IsTrue JUMPS → visits.new ≤ visits.old + 12 * (longest (history self.now) + 1) };
+        ensures visits { IsTrue JUMPS →
+            visits.new ≤ visits.old + 12 * (longest (history self.now) + 1) };
 
     /// Goes on to the moment `t`, in picoseconds.
     fn move_to(&mut self, t: u128, visits: &mut Visits)
@@ -112,7 +118,8 @@ pub trait Gates {
         ensures moment { moment self.new ≡ t }
         ensures history { history self.new ≡ kept (history self.old) t }
         ensures counted { visits.old ≤ visits.new }
-        ensures visits { IsTrue JUMPS → visits.new ≤ visits.old + 2 * (longest (history self.old) + 1) };
+        ensures visits { IsTrue JUMPS →
+            visits.new ≤ visits.old + 2 * (longest (history self.old) + 1) };
 
     /// A command with the lead moment `lead`, in picoseconds; its change moment, or why it is not accepted.
     fn install(&mut self, schedule: &Schedule, lead: u128) -> Result<u128, NotNow>
@@ -121,9 +128,12 @@ pub trait Gates {
         requires within { lead ≤ greatest_moment + greatest_lead }
         ensures sound { is_sound self.new }
         ensures moment { moment self.new ≡ moment self.old }
-        ensures answer { result ≡ answer_to (history self.old) (moment self.old) (accepted_at lead schedule.now) }
-        ensures history { history self.new ≡ with_command (history self.old) (moment self.old) (accepted_at lead schedule.now) }
-        ensures hindsight { (n : ℕ) → n < lead → gates (history self.new) n ≡ gates (history self.old) n };
+        ensures answer { result
+            ≡ answer_to (history self.old) (moment self.old) (accepted_at lead schedule.now) }
+        ensures history { history self.new
+            ≡ with_command (history self.old) (moment self.old) (accepted_at lead schedule.now) }
+        ensures hindsight { (n : ℕ) → n < lead →
+            gates (history self.new) n ≡ gates (history self.old) n };
 
     /// A command after which all classes are open, with the lead moment `lead`, in picoseconds; that moment, or why it
     /// is not accepted.
@@ -133,14 +143,18 @@ pub trait Gates {
         requires within { lead ≤ greatest_moment + greatest_lead }
         ensures sound { is_sound self.new }
         ensures moment { moment self.new ≡ moment self.old }
-        ensures answer { result ≡ answer_to (history self.old) (moment self.old) (deletion_at lead) }
-        ensures history { history self.new ≡ with_command (history self.old) (moment self.old) (deletion_at lead) }
-        ensures hindsight { (n : ℕ) → n < lead → gates (history self.new) n ≡ gates (history self.old) n };
+        ensures answer { result
+            ≡ answer_to (history self.old) (moment self.old) (deletion_at lead) }
+        ensures history { history self.new
+            ≡ with_command (history self.old) (moment self.old) (deletion_at lead) }
+        ensures hindsight { (n : ℕ) → n < lead →
+            gates (history self.new) n ≡ gates (history self.old) n };
 
     /// The command in force, if there is one.
     fn in_force(&self) -> Option<Installed>
         requires { is_sound self.now }
-        ensures { result ≡ option_map installed_of (in_force (history self.now) (moment self.now)) };
+        ensures { result
+            ≡ option_map installed_of (in_force (history self.now) (moment self.now)) };
 
     /// The command that is pending, if there is one.
     fn pending(&self) -> Option<Installed>
@@ -150,7 +164,8 @@ pub trait Gates {
     /// The command that is announced, if there is one.
     fn announced(&self) -> Option<Installed>
         requires { is_sound self.now }
-        ensures { result ≡ option_map installed_of (announced (history self.now) (moment self.now)) };
+        ensures { result
+            ≡ option_map installed_of (announced (history self.now) (moment self.now)) };
 
     /// The history is one that can be at its moment, and nothing in it is past.
     ghost is_current: { (s : Self) → is_sound s → IsCurrent (history s) (moment s) };

@@ -31,11 +31,26 @@ impl Model for ListExecute {
 
     ghost Value = { Walk };
 
-    ghost view = { λ w. record { began = w.began; index = w.index; start = w.start; until = end_unless w.is_last w.start w.entry; entry = w.entry; held = w.held } };
+    ghost view = { λ w. record {
+      began = w.began;
+      index = w.index;
+      start = w.start;
+      until = end_unless w.is_last w.start w.entry;
+      entry = w.entry;
+      held = w.held;
+    } };
 
-    ghost invariant = { λ w. (w.began ≤ 4 * greatest_moment) × (w.index < 256) × (w.start ≤ w.began + 2 ^ 42 * w.index) };
+    ghost invariant = { λ w. (w.began ≤ 4 * greatest_moment) × (w.index < 256)
+        × (w.start ≤ w.began + 2 ^ 42 * w.index) };
 
-    ghost inverse = { λ w. record { began = w.began; index = w.index; start = w.start; entry = w.entry; held = w.held; is_last = has_no_end w.until } };
+    ghost inverse = { λ w. record {
+      began = w.began;
+      index = w.index;
+      start = w.start;
+      entry = w.entry;
+      held = w.held;
+      is_last = has_no_end w.until;
+    } };
 }
 
 /// The entry of an index.

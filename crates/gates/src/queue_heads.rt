@@ -43,7 +43,8 @@ fn with(mask: u8, class: u8) -> u8
 pub fn without(mask: u8, class: u8) -> u8
     requires { class < CLASSES }
     ensures same { opens result class ≡ false }
-    ensures others { (other : ℕ) → other < CLASSES → (other ≡ class → ⊥) → opens result other ≡ opens mask other }
+    ensures others { (other : ℕ) → other < CLASSES → (other ≡ class → ⊥) →
+        opens result other ≡ opens mask other }
     ensures less { opens mask class ≡ true → result < mask }
 {
     mask & !(1 << class)
@@ -98,7 +99,8 @@ impl Heads {
 
     /// The classes in which a frame waits: bit c is class c.
     pub fn waits(&self) -> u8
-        ensures marks { (class : ℕ) → class < CLASSES → opens result class ≡ is_some (slice_index_or self.now class None) }
+        ensures marks { (class : ℕ) → class < CLASSES →
+            opens result class ≡ is_some (slice_index_or self.now class None) }
         ensures some { (class d : ℕ) → slice_index_or self.now class None ≡ Some d → 0 < d }
         ensures count { length self.now ≡ CLASSES }
     {

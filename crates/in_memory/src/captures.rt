@@ -43,7 +43,14 @@ fn put_replay(
     departures: &mut [u8],
     fault: &mut [u8],
 ) -> ReplayRan
-    ensures { Replays (record { status = status; report = told.now; departures = left.now; fault = said.now }) result (outputs report.old departures.old fault.old) (outputs report.new departures.new fault.new) }
+    ensures { Replays
+        (record {
+          status = status;
+          report = told.now;
+          departures = left.now;
+          fault = said.now;
+        }) result (outputs report.old departures.old fault.old)
+        (outputs report.new departures.new fault.new) }
 {
     let ran = ReplayRan {
         report: told.len(),
@@ -82,7 +89,10 @@ fn end_replay<A: Allocator>(
     departures: &mut [u8],
     fault: &mut [u8],
 ) -> ReplayRan
-    ensures { (whole : Outcome) → Ends run (got (Some []) (Some [])) (got (Some told.now) (Some left.now)) whole → Replays (told_of_replay whole) result (outputs report.old departures.old fault.old) (outputs report.new departures.new fault.new) }
+    ensures { (whole : Outcome) →
+        Ends run (got (Some []) (Some [])) (got (Some told.now) (Some left.now)) whole →
+        Replays (told_of_replay whole) result (outputs report.old departures.old fault.old)
+        (outputs report.new departures.new fault.new) }
 {
     let Err(why) = run else {
         return put_replay(0, told, left, b"", report, departures, fault);
@@ -111,7 +121,8 @@ fn refuse_replay<A: Allocator>(
     departures: &mut [u8],
     fault: &mut [u8],
 ) -> ReplayRan
-    ensures { Replays (refused_replay value) result (outputs report.old departures.old fault.old) (outputs report.new departures.new fault.new) }
+    ensures { Replays (refused_replay value) result (outputs report.old departures.old fault.old)
+        (outputs report.new departures.new fault.new) }
 {
     let mut said = Vec::new(alloc);
     let ended = say_value(&value, &mut said);
@@ -148,8 +159,12 @@ pub fn replay_octets<A: Allocator>(
     departures: &mut [u8],
     fault: &mut [u8],
 ) -> ReplayRan
-    ensures { (read : List (List ℕ) → Result Command TcFault) → IsReader read → (records : Result (List Entry × End) CapFault) → ReadsAs capture.now records →
-        Replays (told_by_replay (λ settings. outcome_of read settings stamp script.now records) (settings_at values)) result (outputs report.old departures.old fault.old) (outputs report.new departures.new fault.new) }
+    ensures { (read : List (List ℕ) → Result Command TcFault) → IsReader read →
+        (records : Result (List Entry × End) CapFault) → ReadsAs capture.now records →
+        Replays
+        (told_by_replay (λ settings. outcome_of read settings stamp script.now records)
+        (settings_at values)) result (outputs report.old departures.old fault.old)
+        (outputs report.new departures.new fault.new) }
 {
     let settings = match settings_at(values) {
         Ok(settings) => settings,

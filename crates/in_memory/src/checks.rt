@@ -33,8 +33,12 @@ pub fn check_octets<A: Allocator>(
     output: &mut [u8],
     fault: &mut [u8],
 ) -> Ran
-    ensures { (tell : Teller) → IsTeller tell → (read : List (List ℕ) → Result Command TcFault) → IsReader read →
-        Answers (told_by script_telling (λ ps. whole_check tell (usual shares windows ps) read schedules.now) (rate_at rate)) result (slices output.old fault.old) (slices output.new fault.new) }
+    ensures { (tell : Teller) → IsTeller tell → (read : List (List ℕ) → Result Command TcFault) →
+        IsReader read →
+        Answers
+        (told_by script_telling
+        (λ ps. whole_check tell (usual shares windows ps) read schedules.now) (rate_at rate)) result
+        (slices output.old fault.old) (slices output.new fault.new) }
 {
     let rate = match rate_at(rate) {
         Ok(rate) => rate,

@@ -35,7 +35,9 @@ pub fn frames_octets<A: Allocator>(
     fault: &mut [u8],
 ) -> Ran
     ensures { (read : List (List ℕ) → Result Command TcFault) → IsReader read →
-        Answers (told_by script_telling (λ settings. frames_of read settings script.now) (settings_at values)) result (slices output.old fault.old) (slices output.new fault.new) }
+        Answers
+        (told_by script_telling (λ settings. frames_of read settings script.now)
+        (settings_at values)) result (slices output.old fault.old) (slices output.new fault.new) }
 {
     let settings = match settings_at(values) {
         Ok(settings) => settings,
@@ -61,7 +63,9 @@ pub fn frames_by_stream_octets<A: Allocator>(
     fault: &mut [u8],
 ) -> Ran
     ensures { (read : List (List ℕ) → Result Command TcFault) → IsReader read →
-        Answers (told_by streams_telling (λ settings. frames_by_stream read settings table.now script.now) (settings_at values)) result (slices output.old fault.old) (slices output.new fault.new) }
+        Answers
+        (told_by streams_telling (λ settings. frames_by_stream read settings table.now script.now)
+        (settings_at values)) result (slices output.old fault.old) (slices output.new fault.new) }
 {
     let settings = match settings_at(values) {
         Ok(settings) => settings,
@@ -89,8 +93,11 @@ pub fn frames_of_capture_octets<A: Allocator>(
     output: &mut [u8],
     fault: &mut [u8],
 ) -> Ran
-    ensures { (read : List (List ℕ) → Result Command TcFault) → IsReader read → (records : Result (List Entry × End) CapFault) → ReadsAs capture.now records →
-        Answers (told_by replay_telling (λ settings. frames_of_capture read settings script.now records) (settings_at values)) result (slices output.old fault.old) (slices output.new fault.new) }
+    ensures { (read : List (List ℕ) → Result Command TcFault) → IsReader read →
+        (records : Result (List Entry × End) CapFault) → ReadsAs capture.now records →
+        Answers
+        (told_by replay_telling (λ settings. frames_of_capture read settings script.now records)
+        (settings_at values)) result (slices output.old fault.old) (slices output.new fault.new) }
 {
     let settings = match settings_at(values) {
         Ok(settings) => settings,

@@ -36,7 +36,8 @@ pub(crate) fn put_told(
     output: &mut [u8],
     fault: &mut [u8],
 ) -> Ran
-    ensures { Answers (record { status = status; output = text.now; fault = said.now }) result (slices output.old fault.old) (slices output.new fault.new) }
+    ensures { Answers (record { status = status; output = text.now; fault = said.now }) result
+        (slices output.old fault.old) (slices output.new fault.new) }
 {
     let ran = Ran {
         output: text.len(),
@@ -71,7 +72,8 @@ pub(crate) fn end_in_memory<A: Allocator, I: InputFault>(
     fault: &mut [u8],
 ) -> Ran
     ensures told { (whole : Outcome I) → RunsOut run (Some []) (Some written.now) whole →
-        Answers (told_of I.telling whole) result (slices output.old fault.old) (slices output.new fault.new) }
+        Answers (told_of I.telling whole) result (slices output.old fault.old)
+        (slices output.new fault.new) }
     ensures failed { IsFailed run →
         HasNoMemory result (slices output.old fault.old) (slices output.new fault.new) }
 {
@@ -93,7 +95,8 @@ pub(crate) fn refuse_value<A: Allocator>(
     output: &mut [u8],
     fault: &mut [u8],
 ) -> Ran
-    ensures { Answers (refused value) result (slices output.old fault.old) (slices output.new fault.new) }
+    ensures { Answers (refused value) result (slices output.old fault.old)
+        (slices output.new fault.new) }
 {
     let mut said = Vec::new(alloc);
     let ended = say_value(&value, &mut said);

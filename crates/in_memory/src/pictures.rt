@@ -60,7 +60,8 @@ fn draw_with(
     output: &mut [u8],
     fault: &mut [u8],
 ) -> Ran
-    ensures { Draws settings options script.now result (slices output.old fault.old) (slices output.new fault.new) }
+    ensures { Draws settings options script.now result (slices output.old fault.old)
+        (slices output.new fault.new) }
 {
     let mut written = Vec::new(alloc);
     let run = draw(
@@ -88,7 +89,8 @@ pub fn draw_octets(
     output: &mut [u8],
     fault: &mut [u8],
 ) -> Ran
-    ensures { DrawsWith (settings_at values) (options_at shown) script.now result (slices output.old fault.old) (slices output.new fault.new) }
+    ensures { DrawsWith (settings_at values) (options_at shown) script.now result
+        (slices output.old fault.old) (slices output.new fault.new) }
 {
     let settings = match settings_at(values) {
         Ok(settings) => settings,

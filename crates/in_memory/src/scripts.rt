@@ -26,7 +26,9 @@ pub fn run_octets<A: Allocator>(
     fault: &mut [u8],
 ) -> Ran
     ensures { (read : List (List ℕ) → Result Command TcFault) → IsReader read →
-        Answers (told_by script_telling (λ settings. outcome_of read settings script.now) (settings_at values)) result (slices output.old fault.old) (slices output.new fault.new) }
+        Answers
+        (told_by script_telling (λ settings. outcome_of read settings script.now)
+        (settings_at values)) result (slices output.old fault.old) (slices output.new fault.new) }
 {
     let settings = match settings_at(values) {
         Ok(settings) => settings,

@@ -29,8 +29,9 @@ pub fn streams_octets<A: Allocator>(
     fault: &mut [u8],
 ) -> Ran
     ensures { Answers
-        (told_by streams_telling (λ moment. outcome_of (timed_from timing moment) table.now script.now) (from_at from))
-        result (slices output.old fault.old) (slices output.new fault.new) }
+        (told_by streams_telling
+        (λ moment. outcome_of (timed_from timing moment) table.now script.now)
+        (from_at from)) result (slices output.old fault.old) (slices output.new fault.new) }
 {
     let from = match from_at(from) {
         Ok(from) => from,

@@ -29,7 +29,8 @@ pub trait InputFault: Copy {
 
     /// Writes its text.
     fn put<W: Write>(&self, writer: &mut W) -> Result<(), WriteFault>
-        ensures { Writes result (W.contents writer.old) (W.contents writer.new) (telling.text self.now) };
+        ensures { Writes result (W.contents writer.old) (W.contents writer.new)
+            (telling.text self.now) };
 }
 
 /// A fault of an input that is read line by line, and whose lines may pass a limit.

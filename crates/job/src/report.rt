@@ -12,7 +12,8 @@ use std::io::Write;
 use text::octet_writer::{WriteFault, put};
 
 fn put_fault<I: InputFault, W: Write>(fault: &Fault<I>, writer: &mut W) -> Result<(), WriteFault>
-    ensures { Writes result (W.contents writer.old) (W.contents writer.new) (fault_text I.telling fault.now) }
+    ensures { Writes result (W.contents writer.old) (W.contents writer.new)
+        (fault_text I.telling fault.now) }
 {
     match fault {
         Fault::Input(fault) => fault.put(writer),
@@ -56,7 +57,8 @@ pub struct Ended {
 /// Writes the text of a fault. The exit status that goes with it, also where that write fails.
 pub fn say_fault<I: InputFault, W: Write>(fault: &Fault<I>, writer: &mut W) -> Ended
     ensures status { result.status ≡ fault_status I.telling fault.now }
-    ensures told { IsTold result.told (W.contents writer.old) (W.contents writer.new) (fault_text I.telling fault.now) }
+    ensures told { IsTold result.told (W.contents writer.old) (W.contents writer.new)
+        (fault_text I.telling fault.now) }
 {
     let told = put_fault(fault, writer).is_ok();
     Ended {
@@ -68,7 +70,8 @@ pub fn say_fault<I: InputFault, W: Write>(fault: &Fault<I>, writer: &mut W) -> E
 /// Reports how a run ended: a fault's text and what it was, where there is one, and the status.
 pub fn say_run<I: InputFault, E: Errors>(run: Result<(), Fault<I>>, errors: &mut E) -> Ended
     ensures status { result.status ≡ run_status I.telling run }
-    ensures told { IsTold result.told (E.contents errors.old) (E.contents errors.new) (run_text I.telling run) }
+    ensures told { IsTold result.told (E.contents errors.old) (E.contents errors.new)
+        (run_text I.telling run) }
     ensures known { IfErr run (λ fault. E.knows errors.new (fault_kind I.kind_of fault)) }
 {
     match run {

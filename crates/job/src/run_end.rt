@@ -21,7 +21,8 @@ fn let_out<I: Copy, W: Write + Drop, B: Allocator>(
 ) -> Result<(), Fault<I>>
     ensures kept { (result ≡ run) ⊎ (result ≡ Err Faults.Write) }
     ensures out { (writer_buffer answers.new ≡ []) ⊎ (result ≡ Err Faults.Write) }
-    ensures bytes { Keeps (writer_contents W.contents answers.old) (writer_contents W.contents answers.new) }
+    ensures bytes { Keeps (writer_contents W.contents answers.old)
+        (writer_contents W.contents answers.new) }
     ensures once { run ≡ Err Faults.Write → answers.new ≡ answers.old }
 {
     if let Err(Fault::Write) = run {
@@ -41,7 +42,8 @@ pub fn end_run<I: InputFault, B: Allocator, W: Write + Drop, E: Errors>(
     mut answers: BufWriter<W, B>,
     errors: &mut E,
 ) -> (Ended, W)
-    ensures { IsEndOf I.telling run (writer_contents W.contents answers) result.0 (W.contents result.1) (E.contents errors.old) (E.contents errors.new) }
+    ensures { IsEndOf I.telling run (writer_contents W.contents answers) result.0
+        (W.contents result.1) (E.contents errors.old) (E.contents errors.new) }
 {
     let run = let_out(run, &mut answers);
     let ended = say_run(run, errors);
@@ -52,7 +54,8 @@ pub fn end_run<I: InputFault, B: Allocator, W: Write + Drop, E: Errors>(
 /// Gives the writer of the output back where a run ended before anything was written, as this says.
 pub fn end_told<B: Allocator, W: Write + Drop>(ended: Ended, answers: BufWriter<W, B>) -> (Ended, W)
     ensures ended { result.0 ≡ ended }
-    ensures kept { append_known (W.contents result.1) (writer_buffer answers) ≡ writer_contents W.contents answers }
+    ensures kept { append_known (W.contents result.1) (writer_buffer answers)
+        ≡ writer_contents W.contents answers }
 {
     let (writer, _unwritten) = answers.into_parts();
     (ended, writer)

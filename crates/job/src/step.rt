@@ -18,7 +18,8 @@ fn line_behind<I: LineInput, A: Allocator, R: Read + Drop>(
     lines: &mut LineReader<R, A>,
     is_out: bool,
 ) -> Result<bool, Fault<I>>
-    ensures step { Steps I.limited (script_left R.remaining lines.old) result (current_number lines.new) (current_line lines.new) (script_left R.remaining lines.new) }
+    ensures step { Steps I.limited (script_left R.remaining lines.old) result
+        (current_number lines.new) (current_line lines.new) (script_left R.remaining lines.new) }
     ensures write { (is_out ≡ false) ↔ (result ≡ Err Faults.Write) }
     ensures unread { result ≡ Err Faults.Write → lines.new ≡ lines.old }
     ensures fewer { result ≡ Ok true → most_lines lines.new < most_lines lines.old }
@@ -38,7 +39,8 @@ pub fn next_line<I: LineInput, A: Allocator, R: Read + Drop, W: Write>(
     lines: &mut LineReader<R, A>,
     writer: &mut W,
 ) -> Result<bool, Fault<I>>
-    ensures step { Steps I.limited (script_left R.remaining lines.old) result (current_number lines.new) (current_line lines.new) (script_left R.remaining lines.new) }
+    ensures step { Steps I.limited (script_left R.remaining lines.old) result
+        (current_number lines.new) (current_line lines.new) (script_left R.remaining lines.new) }
     ensures kept { Keeps (W.contents writer.old) (W.contents writer.new) }
     ensures unread { result ≡ Err Faults.Write → lines.new ≡ lines.old }
     ensures fewer { result ≡ Ok true → most_lines lines.new < most_lines lines.old }

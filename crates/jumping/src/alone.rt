@@ -74,7 +74,8 @@ fn some_fits(schedule: &Schedule, heads: &Heads, asked: u8, place: Place) -> boo
     requires within { place.at < in_ps schedule.now.cycle }
     requires asked { AreAsked schedule.now heads.now place.at asked }
     ensures some { result ≡ true → Fits (repeated schedule.now) heads.now place.at }
-    ensures none { result ≡ false → (class d : ℕ) → slice_get heads.now class ≡ Some (Some d) → open_while (repeated schedule.now) class place.at d ≡ false }
+    ensures none { result ≡ false → (class d : ℕ) → slice_get heads.now class ≡ Some (Some d) →
+        open_while (repeated schedule.now) class place.at d ≡ false }
 {
     let past = place.at - place.start;
     let mut left = asked;

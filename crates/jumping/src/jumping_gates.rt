@@ -42,7 +42,8 @@ impl Model for Jumping {
 
     ghost view = { λ g. clocked g.slots };
 
-    ghost invariant = { λ g. AreCommands g.slots.commands × Stands g.slots.commands.in_force g.slots.commands.pending g.slots.commands.moment g.slots.position × Resumes g.slots.commands g.resumed × IsEdge g.slots.commands g.slots.position g.edge × (g.mask ≡ shown_by g.slots.position) };
+    ghost invariant = { λ g. AreCommands g.slots.commands
+        × Stands g.slots.commands.in_force g.slots.commands.pending g.slots.commands.moment g.slots.position × Resumes g.slots.commands g.resumed × IsEdge g.slots.commands g.slots.position g.edge × (g.mask ≡ shown_by g.slots.position) };
 }
 
 /// Whether a moment is before another, if there is one; both are in picoseconds.
@@ -113,7 +114,8 @@ fn stays_open_from_now(
     requires resumes { Resumes slots.now.commands resumed.now }
     requires class { class < CLASSES }
     requires within { for_ps ≤ greatest_moment }
-    ensures { result ≡ open_while (mask_ahead slots.now.commands) class slots.now.commands.moment for_ps }
+    ensures { result
+        ≡ open_while (mask_ahead slots.now.commands) class slots.now.commands.moment for_ps }
 {
     let from = slots.moment();
     match lone_list(slots) {
@@ -150,8 +152,12 @@ fn move_on(
     ensures edge { IsEdge slots.new.commands slots.new.position edge.new }
     ensures mask { mask.new ≡ shown_by slots.new.position }
     ensures counted { visits.old ≤ visits.new }
-    ensures visits { visits.new ≤ visits.old + (entry_count (plan_of slots.new.commands.in_force) + 1) }
-    ensures next { (e : ℕ) → NoneBy slots.old.commands.pending slots.old.commands.announced t → BeginsAtMost (plan_of slots.old.commands.in_force) (start_of slots.old.commands.in_force) slots.old.commands.moment t e → visits.new ≤ visits.old + 2 }
+    ensures visits { visits.new
+        ≤ visits.old + (entry_count (plan_of slots.new.commands.in_force) + 1) }
+    ensures next { (e : ℕ) → NoneBy slots.old.commands.pending slots.old.commands.announced t →
+        BeginsAtMost (plan_of slots.old.commands.in_force)
+        (start_of slots.old.commands.in_force) slots.old.commands.moment t e →
+        visits.new ≤ visits.old + 2 }
 {
     if slots.is_alone() {
         let (until, shown) = slots.move_alone(t, visits);
@@ -179,7 +185,8 @@ fn search_legs(
     requires stands { Stands slots.now.commands.in_force slots.now.commands.pending slots.now.commands.moment slots.now.position }
     requires resumes { Resumes slots.now.commands resumed.now }
     requires within { before ≤ 2 * greatest_moment }
-    ensures searched { Searched (mask_ahead slots.now.commands) heads.now slots.now.commands.moment before result }
+    ensures searched { Searched
+        (mask_ahead slots.now.commands) heads.now slots.now.commands.moment before result }
     ensures counted { visits.old ≤ visits.new }
     ensures visits { visits.new ≤ visits.old + most_in (stretches_of slots.now.commands) }
 {
@@ -262,7 +269,8 @@ impl Gates for Jumping {
         ensures counted { visits.old ≤ visits.new }
         ensures visits { visits.new ≤ visits.old + 2 * (longest self.old.history + 1) }
         ensures still { NothingComes self.old.history self.old.moment t → visits.new ≡ visits.old }
-        ensures next { (e : ℕ) → OneEntryComes self.old.history self.old.moment t e → visits.new ≤ visits.old + 2 }
+        ensures next { (e : ℕ) → OneEntryComes self.old.history self.old.moment t e →
+            visits.new ≤ visits.old + 2 }
     {
         if is_before(t, self.edge) {
             self.slots.pass(t);

@@ -80,7 +80,9 @@ fn begin_cycle(
     requires length { timer.length ≡ in_ps schedule.now.cycle }
     requires next { timer.next_start ≡ timer.started + in_ps schedule.now.cycle }
     requires last { end_mask ≡ last_mask schedule.now.entries }
-    ensures placed { (start k : ℕ) → timer.started ≡ start + in_ps schedule.now.cycle * k → IsCycleStart schedule.now start held_from → IsPlaced schedule.now start held_from timer.started result }
+    ensures placed { (start k : ℕ) → timer.started ≡ start + in_ps schedule.now.cycle * k →
+        IsCycleStart schedule.now start held_from →
+        IsPlaced schedule.now start held_from timer.started result }
     ensures timer { result.timer ≡ timer }
     ensures first { has_come held_from timer.started ≡ false → result.walk.index ≡ 0 }
     ensures visit { has_come held_from timer.started ≡ false → visits.new ≡ one_more visits.old }
@@ -132,7 +134,8 @@ impl Position {
         ensures counted { visits.old ≤ visits.new }
         ensures visits { visits.new ≤ visits.old + (length schedule.now.entries + 1) }
         ensures held { has_come held_from t ≡ true → visits.new ≤ visits.old + 2 }
-        ensures listed { has_come held_from t ≡ false → visits.new ≡ more visits.old (self.new.walk.index + 1) }
+        ensures listed { has_come held_from t ≡ false →
+            visits.new ≡ more visits.old (self.new.walk.index + 1) }
     {
         let mut timer = timer_from(schedule, start);
         timer.jump_to(t);
@@ -156,7 +159,12 @@ impl Position {
         requires some { 0 < need.length }
         requires moment { need.from ≤ 2 * greatest_moment }
         requires within { need.length ≤ greatest_moment }
-        ensures { (start : ℕ) (held : Option ℕ) → IsPlaced schedule.now start held need.from self.now → has_come held self.now.timer.started ≡ false → result ≡ open_while (mask_since (Some schedule.now) start None) need.class need.from need.length }
+        ensures { (start : ℕ) (held : Option ℕ) →
+            IsPlaced schedule.now start held need.from self.now →
+            has_come held self.now.timer.started ≡ false →
+            result
+            ≡ open_while
+            (mask_since (Some schedule.now) start None) need.class need.from need.length }
     {
         let stay = schedule.stay(self.walk.index(), need.class);
         stay_lasts(stay, need.from - self.walk.entry_start() + need.length)
@@ -165,13 +173,18 @@ impl Position {
     /// Whether a class stays open in a list that is in no hold yet, and whose last state is held from a moment on.
     fn stays_open_to_hold(&self, schedule: &Schedule, held_from: u128, need: Need) -> bool
         requires sound { IsSchedule schedule.now }
-        requires stands { (start : ℕ) × IsPlaced schedule.now start (Some held_from) need.from self.now }
+        requires stands { (start : ℕ)
+            × IsPlaced schedule.now start (Some held_from) need.from self.now }
         requires ahead { need.from < held_from }
         requires class { need.class < CLASSES }
         requires some { 0 < need.length }
         requires moment { need.from ≤ 2 * greatest_moment }
         requires within { need.length ≤ greatest_moment }
-        ensures { (start : ℕ) → IsPlaced schedule.now start (Some held_from) need.from self.now → result ≡ open_while (mask_since (Some schedule.now) start (Some held_from)) need.class need.from need.length }
+        ensures { (start : ℕ) → IsPlaced schedule.now start (Some held_from) need.from self.now →
+            result
+            ≡ open_while
+            (mask_since (Some schedule.now) start
+            (Some held_from)) need.class need.from need.length }
     {
         let left = held_from - need.from;
         let within = Need {
@@ -190,7 +203,10 @@ impl Position {
         requires class { need.class < CLASSES }
         requires moment { need.from ≤ 2 * greatest_moment }
         requires within { need.length ≤ greatest_moment }
-        ensures { (start : ℕ) → IsPlaced schedule.now start held_from need.from self.now → result ≡ open_while (mask_since (Some schedule.now) start held_from) need.class need.from need.length }
+        ensures { (start : ℕ) → IsPlaced schedule.now start held_from need.from self.now →
+            result
+            ≡ open_while
+            (mask_since (Some schedule.now) start held_from) need.class need.from need.length }
     {
         if need.length == 0 {
             return true;
@@ -212,7 +228,9 @@ impl Position {
     /// a moment on; none: for ever.
     pub fn until(&self, held_from: Option<u128>) -> Option<u128>
         ensures boundary { result ≡ boundary_of held_from self.now }
-        ensures flat { (plan : Plan) (start n : ℕ) → IsSchedule plan → IsPlaced plan start held_from n self.now → IsFlat (mask_since (Some plan) start held_from) n result }
+        ensures flat { (plan : Plan) (start n : ℕ) → IsSchedule plan →
+            IsPlaced plan start held_from n self.now →
+            IsFlat (mask_since (Some plan) start held_from) n result }
     {
         if has_come(held_from, self.timer.started()) {
             return None;
@@ -242,7 +260,8 @@ impl Position {
         ensures placed { IsPlaced schedule.now start held_from t self.new }
         ensures counted { visits.old ≤ visits.new }
         ensures visits { visits.new ≤ visits.old + (length schedule.now.entries + 1) }
-        ensures next { (n e : ℕ) → IsPlaced schedule.now start held_from n self.old → BeginsAtMost (Some schedule.now) start n t e → visits.new ≤ visits.old + 2 }
+        ensures next { (n e : ℕ) → IsPlaced schedule.now start held_from n self.old →
+            BeginsAtMost (Some schedule.now) start n t e → visits.new ≤ visits.old + 2 }
     {
         if has_come(held_from, self.timer.started()) {
             return;
@@ -261,7 +280,10 @@ impl Position {
         requires sound { IsSchedule schedule.now }
         requires of { IsOf schedule.now self.old.walk }
         requires ends { IsSome (end_of self.old.walk) }
-        ensures placed { (start n e : ℕ) (held : Option ℕ) → IsPlaced schedule.now start held n self.old → has_come held self.old.timer.started ≡ false → end_of self.old.walk ≡ Some e → n ≤ e → e < self.old.timer.next_start → IsPlaced schedule.now start held e self.new }
+        ensures placed { (start n e : ℕ) (held : Option ℕ) →
+            IsPlaced schedule.now start held n self.old →
+            has_come held self.old.timer.started ≡ false → end_of self.old.walk ≡ Some e → n ≤ e →
+            e < self.old.timer.next_start → IsPlaced schedule.now start held e self.new }
         ensures timer { self.new.timer ≡ self.old.timer }
         ensures index { self.new.walk.index ≡ self.old.walk.index + 1 }
         ensures visit { visits.new ≡ one_more visits.old }
@@ -284,10 +306,12 @@ impl Position {
         requires later { self.now.timer.started ≤ t }
         requires within { t ≤ 2 * greatest_moment }
         requires unheld { has_come held_from t ≡ false }
-        ensures placed { (start n : ℕ) → IsPlaced schedule.now start held_from n self.now → IsPlaced schedule.now start held_from result.timer.started result }
+        ensures placed { (start n : ℕ) → IsPlaced schedule.now start held_from n self.now →
+            IsPlaced schedule.now start held_from result.timer.started result }
         ensures reached { result.timer.started ≤ t }
         ensures holds { t < result.timer.next_start }
-        ensures whole { (k : ℕ) → self.now.timer.started + self.now.timer.length * k ≤ t → self.now.timer.started + self.now.timer.length * k ≤ result.timer.started }
+        ensures whole { (k : ℕ) → self.now.timer.started + self.now.timer.length * k ≤ t →
+            self.now.timer.started + self.now.timer.length * k ≤ result.timer.started }
         ensures index { result.walk.index ≡ 0 }
         ensures visit { visits.new ≡ one_more visits.old }
         ensures counted { visits.old ≤ visits.new }

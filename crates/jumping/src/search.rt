@@ -12,8 +12,11 @@ use wire_time::CLASSES;
 /// Whether some class with a need, in picoseconds, stays open through it from a leg on.
 fn fits(leg: &Leg<'_>, rest: &Rest<'_>, needs: &Heads) -> bool
     requires ready { AreReady leg.now (lent_rest rest.now) }
-    ensures some { result ≡ true → Fits (mask_in (stretches_ahead leg.now (lent_rest rest.now))) needs.now (from_of leg.now) }
-    ensures none { result ≡ false → (class d : ℕ) → slice_get needs.now class ≡ Some (Some d) → open_while (mask_in (stretches_ahead leg.now (lent_rest rest.now))) class (from_of leg.now) d ≡ false }
+    ensures some { result ≡ true →
+        Fits (mask_in (stretches_ahead leg.now (lent_rest rest.now))) needs.now (from_of leg.now) }
+    ensures none { result ≡ false → (class d : ℕ) → slice_get needs.now class ≡ Some (Some d) →
+        open_while (mask_in (stretches_ahead leg.now (lent_rest rest.now))) class
+        (from_of leg.now) d ≡ false }
 {
     // The needs are of all classes.
     let _ = needs.waits();
@@ -35,7 +38,8 @@ fn fits(leg: &Leg<'_>, rest: &Rest<'_>, needs: &Heads) -> bool
 
 /// Whether a mask opens some class with a need.
 fn opens_some(mask: u8, needs: &Heads) -> bool
-    ensures { result ≡ false → (class d : ℕ) → slice_get needs.now class ≡ Some (Some d) → (0 < d) × (opens mask class ≡ false) }
+    ensures { result ≡ false → (class d : ℕ) → slice_get needs.now class ≡ Some (Some d) →
+        (0 < d) × (opens mask class ≡ false) }
 {
     mask & needs.waits() != 0
 }
@@ -46,8 +50,13 @@ fn fits_alone(leg: &ListedLeg<'_>, from: u128, position: &Position, needs: &Head
     requires sound { IsSchedule leg.now.schedule.now }
     requires stands { IsPlaced leg.now.schedule.now leg.now.start leg.now.held_from from position.now }
     requires near { from ≤ 2 * greatest_moment }
-    ensures some { result ≡ true → Fits (mask_since (Some leg.now.schedule.now) leg.now.start leg.now.held_from) needs.now from }
-    ensures none { result ≡ false → (class d : ℕ) → slice_get needs.now class ≡ Some (Some d) → open_while (mask_since (Some leg.now.schedule.now) leg.now.start leg.now.held_from) class from d ≡ false }
+    ensures some { result ≡ true →
+        Fits (mask_since
+        (Some leg.now.schedule.now) leg.now.start leg.now.held_from) needs.now from }
+    ensures none { result ≡ false → (class d : ℕ) → slice_get needs.now class ≡ Some (Some d) →
+        open_while
+        (mask_since (Some leg.now.schedule.now) leg.now.start leg.now.held_from) class from d
+        ≡ false }
 {
     // The needs are of all classes.
     let _ = needs.waits();
@@ -90,10 +99,18 @@ impl ListSearch<'_> {
     /// Whether some class fits where a list stands so at a moment. Where nothing follows it, its position decides. Else
     /// the mask shows first whether what follows is worth asking.
     fn fits_at(&self, leg: &ListedLeg<'_>, from: u128, position: &Position) -> bool
-        requires ready { AreReady (Listed (record leg.now { from = from; position = position })) (lent_rest self.now.rest.now) }
+        requires ready { AreReady (Listed (record leg.now { from = from; position = position }))
+            (lent_rest self.now.rest.now) }
         requires unended { ForSome leg.now.until (λ u. from < u) }
-        ensures some { result ≡ true → Fits (mask_in (stretches_ahead (Listed leg.now) (lent_rest self.now.rest.now))) self.now.needs.now from }
-        ensures none { result ≡ false → (class d : ℕ) → slice_get self.now.needs.now class ≡ Some (Some d) → open_while (mask_in (stretches_ahead (Listed leg.now) (lent_rest self.now.rest.now))) class from d ≡ false }
+        ensures some { result ≡ true →
+            Fits (mask_in
+            (stretches_ahead (Listed leg.now)
+            (lent_rest self.now.rest.now))) self.now.needs.now from }
+        ensures none { result ≡ false → (class d : ℕ) →
+            slice_get self.now.needs.now class ≡ Some (Some d) →
+            open_while
+            (mask_in (stretches_ahead (Listed leg.now) (lent_rest self.now.rest.now))) class from d
+            ≡ false }
     {
         match self.rest.next {
             None => fits_alone(leg, from, position, self.needs),
@@ -109,9 +126,14 @@ impl ListSearch<'_> {
     fn in_cycle(&self, leg: &ListedLeg<'_>, visits: &mut Visits) -> Option<u128>
         requires search { IsSearch self.now leg.now }
         requires unheld { ForSome leg.now.held_from (λ h. self.now.stop ≤ h) }
-        ensures searched { Searched (mask_in (stretches_ahead (Listed leg.now) (lent_rest self.now.rest.now))) self.now.needs.now leg.now.from (min self.now.stop leg.now.position.now.timer.next_start) result }
+        ensures searched { Searched
+            (mask_in
+            (stretches_ahead (Listed leg.now)
+            (lent_rest self.now.rest.now))) self.now.needs.now leg.now.from
+            (min self.now.stop leg.now.position.now.timer.next_start) result }
         ensures counted { visits.old ≤ visits.new }
-        ensures visits { visits.new + leg.now.position.now.walk.index + 1 ≤ visits.old + length leg.now.schedule.now.entries }
+        ensures visits { visits.new + leg.now.position.now.walk.index + 1
+            ≤ visits.old + length leg.now.schedule.now.entries }
     {
         let limit = self.stop.min(leg.position.timer.next_start());
         let mut from = leg.from;
@@ -131,10 +153,15 @@ impl ListSearch<'_> {
     fn in_two(&self, leg: &ListedLeg<'_>, visits: &mut Visits) -> Option<u128>
         requires search { IsSearch self.now leg.now }
         requires unheld { ForSome leg.now.held_from (λ h. self.now.stop ≤ h) }
-        requires near { self.now.stop ≤ leg.now.position.now.timer.next_start + in_ps leg.now.schedule.now.cycle }
-        ensures searched { Searched (mask_in (stretches_ahead (Listed leg.now) (lent_rest self.now.rest.now))) self.now.needs.now leg.now.from self.now.stop result }
+        requires near { self.now.stop
+            ≤ leg.now.position.now.timer.next_start + in_ps leg.now.schedule.now.cycle }
+        ensures searched { Searched
+            (mask_in
+            (stretches_ahead (Listed leg.now)
+            (lent_rest self.now.rest.now))) self.now.needs.now leg.now.from self.now.stop result }
         ensures counted { visits.old ≤ visits.new }
-        ensures visits { visits.new + leg.now.position.now.walk.index + 1 ≤ visits.old + 2 * length leg.now.schedule.now.entries }
+        ensures visits { visits.new + leg.now.position.now.walk.index + 1
+            ≤ visits.old + 2 * length leg.now.schedule.now.entries }
     {
         if let Some(found) = self.in_cycle(leg, visits) {
             return Some(found);
@@ -154,9 +181,13 @@ impl ListSearch<'_> {
         requires search { IsSearch self.now leg.now }
         requires unheld { ForSome leg.now.held_from (λ h. self.now.stop ≤ h) }
         requires begins { leg.now.from ≡ leg.now.position.now.timer.started }
-        ensures searched { Searched (mask_in (stretches_ahead (Listed leg.now) (lent_rest self.now.rest.now))) self.now.needs.now leg.now.from self.now.stop result }
+        ensures searched { Searched
+            (mask_in
+            (stretches_ahead (Listed leg.now)
+            (lent_rest self.now.rest.now))) self.now.needs.now leg.now.from self.now.stop result }
         ensures counted { visits.old ≤ visits.new }
-        ensures visits { visits.new + leg.now.position.now.walk.index + 1 ≤ visits.old + 3 * length leg.now.schedule.now.entries }
+        ensures visits { visits.new + leg.now.position.now.walk.index + 1
+            ≤ visits.old + 3 * length leg.now.schedule.now.entries }
     {
         if let Some(found) = self.in_cycle(leg, visits) {
             return Some(found);
@@ -175,9 +206,13 @@ impl ListSearch<'_> {
     fn in_list(&self, leg: &ListedLeg<'_>, visits: &mut Visits) -> Option<u128>
         requires search { IsSearch self.now leg.now }
         requires unheld { ForSome leg.now.held_from (λ h. self.now.stop ≤ h) }
-        ensures searched { Searched (mask_in (stretches_ahead (Listed leg.now) (lent_rest self.now.rest.now))) self.now.needs.now leg.now.from self.now.stop result }
+        ensures searched { Searched
+            (mask_in
+            (stretches_ahead (Listed leg.now)
+            (lent_rest self.now.rest.now))) self.now.needs.now leg.now.from self.now.stop result }
         ensures counted { visits.old ≤ visits.new }
-        ensures visits { visits.new + leg.now.position.now.walk.index + 1 ≤ visits.old + 4 * length leg.now.schedule.now.entries }
+        ensures visits { visits.new + leg.now.position.now.walk.index + 1
+            ≤ visits.old + 4 * length leg.now.schedule.now.entries }
     {
         if let Some(found) = self.in_cycle(leg, visits) {
             return Some(found);
@@ -195,7 +230,10 @@ impl ListSearch<'_> {
     fn in_hold(&self, leg: &ListedLeg<'_>) -> Option<u128>
         requires search { IsSearch self.now leg.now }
         requires held { has_come leg.now.held_from leg.now.from ≡ true }
-        ensures { Searched (mask_in (stretches_ahead (Listed leg.now) (lent_rest self.now.rest.now))) self.now.needs.now leg.now.from self.now.stop result }
+        ensures { Searched
+            (mask_in
+            (stretches_ahead (Listed leg.now)
+            (lent_rest self.now.rest.now))) self.now.needs.now leg.now.from self.now.stop result }
     {
         search_flat(
             &Leg::Listed(leg.at(leg.from, leg.position)),
@@ -207,7 +245,10 @@ impl ListSearch<'_> {
     /// The first such moment from where a list stands, up to its hold and in it.
     fn in_listed(&self, leg: &ListedLeg<'_>, visits: &mut Visits) -> Option<u128>
         requires { IsSearch self.now leg.now }
-        ensures searched { Searched (mask_in (stretches_ahead (Listed leg.now) (lent_rest self.now.rest.now))) self.now.needs.now leg.now.from self.now.stop result }
+        ensures searched { Searched
+            (mask_in
+            (stretches_ahead (Listed leg.now)
+            (lent_rest self.now.rest.now))) self.now.needs.now leg.now.from self.now.stop result }
         ensures counted { visits.old ≤ visits.new }
         ensures visits { visits.new ≤ visits.old + (4 * length leg.now.schedule.now.entries + 1) }
     {
@@ -237,7 +278,10 @@ impl ListSearch<'_> {
 /// The leg's own moment, if some class with a need stays open through it from then on.
 fn search_flat(leg: &Leg<'_>, rest: &Rest<'_>, needs: &Heads) -> Option<u128>
     requires ready { AreReady leg.now (lent_rest rest.now) }
-    ensures { (stop : ℕ) → from_of leg.now < stop → ForSome (until_of leg.now) (λ u. stop ≤ u) → IsFlat (mask_of (stretch_of leg.now)) (from_of leg.now) None → Searched (mask_in (stretches_ahead leg.now (lent_rest rest.now))) needs.now (from_of leg.now) stop result }
+    ensures { (stop : ℕ) → from_of leg.now < stop → ForSome (until_of leg.now) (λ u. stop ≤ u) →
+        IsFlat (mask_of (stretch_of leg.now)) (from_of leg.now) None →
+        Searched (mask_in (stretches_ahead leg.now (lent_rest rest.now))) needs.now
+        (from_of leg.now) stop result }
 {
     if fits(leg, rest, needs) {
         Some(leg.from())
@@ -258,7 +302,8 @@ fn search_leg(
     requires some { from_of leg.now < stop }
     requires within { stop ≤ 2 * greatest_moment }
     requires unended { ForSome (until_of leg.now) (λ u. stop ≤ u) }
-    ensures searched { Searched (mask_in (stretches_ahead leg.now (lent_rest rest.now))) needs.now (from_of leg.now) stop result }
+    ensures searched { Searched (mask_in (stretches_ahead leg.now (lent_rest rest.now))) needs.now
+        (from_of leg.now) stop result }
     ensures counted { visits.old ≤ visits.new }
     ensures visits { visits.new ≤ visits.old + most_visits (stretch_of leg.now) }
 {
@@ -278,7 +323,8 @@ fn search_to(
 ) -> Option<u128>
     requires ready { AreReady leg.now (lent_rest rest.now) }
     requires within { before ≤ 2 * greatest_moment }
-    ensures searched { Searched (mask_in (stretches_ahead leg.now (lent_rest rest.now))) needs.now (from_of leg.now) (up_to (until_of leg.now) before) result }
+    ensures searched { Searched (mask_in (stretches_ahead leg.now (lent_rest rest.now))) needs.now
+        (from_of leg.now) (up_to (until_of leg.now) before) result }
     ensures counted { visits.old ≤ visits.new }
     ensures visits { visits.new ≤ visits.old + most_visits (stretch_of leg.now) }
 {
@@ -305,9 +351,12 @@ fn search_into(
     requires follows { DoFollow leg.now (lent_leg last) }
     requires ends { ForSome (lent_leg last) (λ g. until_of g ≡ None) }
     requires within { before ≤ 2 * greatest_moment }
-    ensures searched { Searched (mask_in (stretch_of leg.now ∷ stretch_in (lent_leg last.entry))) needs.now (from_of leg.now) before result }
+    ensures searched { Searched
+        (mask_in (stretch_of leg.now ∷ stretch_in (lent_leg last.entry))) needs.now
+        (from_of leg.now) before result }
     ensures counted { visits.old ≤ visits.new }
-    ensures visits { visits.new ≤ visits.old + most_in (stretch_of leg.now ∷ stretch_in (lent_leg last.entry)) }
+    ensures visits { visits.new
+        ≤ visits.old + most_in (stretch_of leg.now ∷ stretch_in (lent_leg last.entry)) }
 {
     let rest = Rest {
         next: last,
@@ -339,9 +388,11 @@ pub(crate) fn search(
 ) -> Option<u128>
     requires ready { AreReady leg.now (lent_rest rest.now) }
     requires within { before ≤ 2 * greatest_moment }
-    ensures searched { Searched (mask_in (stretches_ahead leg.now (lent_rest rest.now))) needs.now (from_of leg.now) before result }
+    ensures searched { Searched (mask_in (stretches_ahead leg.now (lent_rest rest.now))) needs.now
+        (from_of leg.now) before result }
     ensures counted { visits.old ≤ visits.new }
-    ensures visits { visits.new ≤ visits.old + most_in (stretches_ahead leg.now (lent_rest rest.now)) }
+    ensures visits { visits.new
+        ≤ visits.old + most_in (stretches_ahead leg.now (lent_rest rest.now)) }
 {
     if let Some(found) = search_to(leg, rest, needs, before, visits) {
         return Some(found);

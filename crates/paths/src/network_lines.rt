@@ -201,8 +201,9 @@ fn answer_lines<A: Allocator, R: Read + Drop, S: Read + Drop, W: Write, H: Watch
     writer: &mut W,
     watch: &mut H,
 ) -> Result<(), PathsFault>
-    ensures { (read : List (List ℕ) → Result Command TcFault) → IsReader read
-        → IfSome (script_left R.remaining network.old) (λ lines. IfSome (script_left S.remaining schedules.old) (λ script.
+    ensures { (read : List (List ℕ) → Result Command TcFault) → IsReader read →
+        IfSome (script_left R.remaining network.old)
+        (λ lines. IfSome (script_left S.remaining schedules.old) (λ script.
         IsLinesRun result settings.now (octets_of next.entry) read lines script
         (W.contents writer.old) (W.contents writer.new))) }
 {
@@ -230,10 +231,11 @@ pub fn paths<R: Read + Drop, S: Read + Drop, W: Write, H: Watch>(
     next: Option<&str>,
     watch: &mut H,
 ) -> Result<(), PathsFault>
-    ensures { (read : List (List ℕ) → Result Command TcFault) → IsReader read
-        → IfSome (R.remaining network) (λ ports. IfSome (S.remaining schedules) (λ lines.
-        IsLinesRun result settings.now (octets_of next.entry) read (script_of ports) (script_of lines)
-        (W.contents writer.old) (W.contents writer.new))) }
+    ensures { (read : List (List ℕ) → Result Command TcFault) → IsReader read →
+        IfSome (R.remaining network)
+        (λ ports. IfSome (S.remaining schedules) (λ lines.
+        IsLinesRun result settings.now (octets_of next.entry) read (script_of ports)
+        (script_of lines) (W.contents writer.old) (W.contents writer.new))) }
 {
     let Ok(mut network) = LineReader::new(&alloc, network) else {
         return Err(PathsFault::Memory);

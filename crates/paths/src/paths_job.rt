@@ -26,7 +26,9 @@ pub fn answer_paths<B: Allocator, R: Read, S: Read + Drop, W: Write + Drop, E: E
     errors: &mut E,
     watch: &mut H,
 ) -> (Ended, W)
-    ensures { IsPathsEnding settings.now (octets_of next.entry) (S.remaining network) (R.remaining reader.old) result.0 (writer_contents W.contents answers) (W.contents result.1) (E.contents errors.old) (E.contents errors.new) }
+    ensures { IsPathsEnding settings.now (octets_of next.entry) (S.remaining network)
+        (R.remaining reader.old) result.0 (writer_contents W.contents answers) (W.contents result.1)
+        (E.contents errors.old) (E.contents errors.new) }
 {
     let run = paths(alloc, network, reader, &mut answers, settings, next, watch);
     end_run(run, answers, errors)

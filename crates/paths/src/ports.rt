@@ -163,7 +163,8 @@ fn fitting_port(
 ) -> Result<PathPort, PathsInput>
     requires lead { lead ≤ greatest_moment }
     requires fitting { early_refusal (port_before settings) change ≡ None }
-    ensures made { result ≡ made_unless (refusal_of settings change) line (port_by settings change lead) }
+    ensures made { result
+        ≡ made_unless (refusal_of settings change) line (port_by settings change lead) }
     ensures is { IfOk result IsPort }
 {
     let schedule = Schedule::new(
@@ -195,7 +196,8 @@ fn changed_port(
     lead: u128,
 ) -> Result<PathPort, PathsInput>
     requires lead { lead ≤ greatest_moment }
-    ensures made { result ≡ made_unless (refusal_of settings change) line (port_by settings change lead) }
+    ensures made { result
+        ≡ made_unless (refusal_of settings change) line (port_by settings change lead) }
     ensures is { IfOk result IsPort }
 {
     match early_refusal(settings.port.mtu(), settings.map, &change) {
@@ -250,8 +252,10 @@ fn port_at(
 ) -> Result<PathPort, PathsFault>
     requires lead { lead ≡ lead_in (seen network.now) }
     requires within { lead ≤ greatest_moment }
-    ensures port { IfOk result (λ port. made_at settings.now (seen network.now) kept.now number ≡ Ok port) }
-    ensures fault { IfErr result (λ why. IsWhy why (made_at settings.now (seen network.now) kept.now number)) }
+    ensures port { IfOk result
+        (λ port. made_at settings.now (seen network.now) kept.now number ≡ Ok port) }
+    ensures fault { IfErr result
+        (λ why. IsWhy why (made_at settings.now (seen network.now) kept.now number)) }
     ensures is { IfOk result IsPort }
 {
     let own = settings_at(settings, network, number);
@@ -314,8 +318,10 @@ pub(crate) fn ports_of(
     network: &Network<Global>,
     kept: &[PortSchedule],
 ) -> Result<Vec<PathPort, Global>, PathsFault>
-    ensures ports { IfOk result (λ ports. ports_in settings.now (seen network.now) kept.now ≡ Ok ports.items) }
-    ensures fault { IfErr result (λ why. IsWhy why (ports_in settings.now (seen network.now) kept.now)) }
+    ensures ports { IfOk result
+        (λ ports. ports_in settings.now (seen network.now) kept.now ≡ Ok ports.items) }
+    ensures fault { IfErr result
+        (λ why. IsWhy why (ports_in settings.now (seen network.now) kept.now)) }
     ensures all { IfOk result (λ ports. All IsPort ports.items) }
     ensures few { IfOk result (λ ports. length ports.items ≤ MOST_NETWORK_PORTS) }
 {

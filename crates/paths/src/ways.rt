@@ -110,7 +110,8 @@ fn put_way(
 ) -> Result<(), AllocError>
     requires periodic { IsPeriodic stream.now }
     requires all { All (λ hop. IsPeriodic hop.stream) kept.old.items }
-    ensures way { IfOk result (λ _. kept.new.items ≡ way_from links.now stream.now number None kept.old.items ports.now) }
+    ensures way { IfOk result
+        (λ _. kept.new.items ≡ way_from links.now stream.now number None kept.old.items ports.now) }
     ensures all { All (λ hop. IsPeriodic hop.stream) kept.new.items }
 {
     let mut before = None;
@@ -146,8 +147,10 @@ fn put_stream(
     stream: &NetworkStream,
 ) -> Result<(), AllocError>
     requires all { All (λ hop. IsPeriodic hop.stream) kept.old.items }
-    ensures way { IfOk result (λ _.
-        kept.new.items ≡ ways_with (seen network.now) (is_periodic stream.now.stream) stream.now number kept.old.items) }
+    ensures way { IfOk result
+        (λ _. kept.new.items
+        ≡ ways_with (seen network.now)
+        (is_periodic stream.now.stream) stream.now number kept.old.items) }
     ensures all { All (λ hop. IsPeriodic hop.stream) kept.new.items }
 {
     if !is_periodic(&stream.stream) {

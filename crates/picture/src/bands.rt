@@ -34,7 +34,8 @@ fn step_in<A: Allocator>(
 )
     requires class { class < CLASSES }
     requires within { moment ≤ greatest_moment }
-    ensures { classes.new ≡ slice_set classes.old class (stepped is_open moment (class_at classes.old class)) }
+    ensures { classes.new
+        ≡ slice_set classes.old class (stepped is_open moment (class_at classes.old class)) }
 {
     classes[class as usize].step(is_open, moment)
 }
@@ -42,7 +43,9 @@ fn step_in<A: Allocator>(
 /// At a moment, in picoseconds, the classes of a mask are open, and the others closed.
 fn step_all<A: Allocator>(classes: &mut [ClassBands<A>; CLASSES], mask: u8, moment: u128)
     requires { moment ≤ greatest_moment }
-    ensures { (class : ℕ) → class < CLASSES → class_at classes.new class ≡ stepped (opens mask class) moment (class_at classes.old class) }
+    ensures { (class : ℕ) → class < CLASSES →
+        class_at classes.new class
+        ≡ stepped (opens mask class) moment (class_at classes.old class) }
 {
     for class in 0..CLASSES as u8 {
         step_in(classes, class, is_open(mask, class), moment);
@@ -88,14 +91,18 @@ fn draw_to<A: Allocator>(
 )
     requires sound { IsCurrent own.old.history own.old.moment }
     requires within { upto ≤ greatest_moment }
-    ensures few { visits.new + most_moved own.old.history * left.new ≤ visits.old + most_moved own.old.history * (left.old + 1) }
+    ensures few { visits.new + most_moved own.old.history * left.new
+        ≤ visits.old + most_moved own.old.history * (left.old + 1) }
     ensures sound { IsCurrent own.new.history own.new.moment }
     ensures onward { own.old.moment ≤ own.new.moment }
     ensures within { own.new.moment ≤ max own.old.moment upto }
     ensures whole { 0 < left.new → upto ≤ own.new.moment }
     ensures used { AreUsedUp own.old.history own.old.moment upto own.new.moment left.old left.new }
     ensures history { own.new.history ≡ kept own.old.history own.new.moment }
-    ensures classes { (class : ℕ) → class < CLASSES → class_at classes.new class ≡ drawn (gates own.old.history) class own.old.moment (own.new.moment - own.old.moment) (class_at classes.old class) }
+    ensures classes { (class : ℕ) → class < CLASSES →
+        class_at classes.new class
+        ≡ drawn (gates own.old.history) class own.old.moment (own.new.moment - own.old.moment)
+        (class_at classes.old class) }
 {
     let mut now = own.now();
     while now < upto && *left > 0 {
@@ -124,7 +131,8 @@ fn opens_before(own: &Jumping, class: u8, upto: u128, visits: &mut Visits) -> bo
     requires class { class < CLASSES }
     requires later { own.now.moment ≤ upto }
     requires within { upto ≤ greatest_moment }
-    ensures value { result ≡ opens_within (gates own.now.history) class own.now.moment (upto - own.now.moment) }
+    ensures value { result
+        ≡ opens_within (gates own.now.history) class own.now.moment (upto - own.now.moment) }
     ensures few { visits.new ≤ visits.old + most_asked own.now.history }
 {
     let first = own.quiet(&need_of(class), upto, visits);
@@ -145,7 +153,11 @@ fn whole_in<A: Allocator>(
     requires class { class < CLASSES }
     requires later { own.now.moment < upto }
     requires within { upto ≤ greatest_moment }
-    ensures { classes.new ≡ slice_set classes.old class (stepped (open_while (gates own.now.history) class own.now.moment (upto - own.now.moment)) own.now.moment (class_at classes.old class)) }
+    ensures { classes.new
+        ≡ slice_set classes.old class
+        (stepped
+        (open_while (gates own.now.history) class own.now.moment
+        (upto - own.now.moment)) own.now.moment (class_at classes.old class)) }
 {
     let now = own.now();
     let is_whole = own.stays_open(class, upto - now, &mut Visits::zero());
@@ -157,7 +169,11 @@ fn whole_all<A: Allocator>(own: &Jumping, classes: &mut [ClassBands<A>; CLASSES]
     requires sound { IsCurrent own.now.history own.now.moment }
     requires later { own.now.moment < upto }
     requires within { upto ≤ greatest_moment }
-    ensures { (class : ℕ) → class < CLASSES → class_at classes.new class ≡ stepped (open_while (gates own.now.history) class own.now.moment (upto - own.now.moment)) own.now.moment (class_at classes.old class) }
+    ensures { (class : ℕ) → class < CLASSES →
+        class_at classes.new class
+        ≡ stepped
+        (open_while (gates own.now.history) class own.now.moment
+        (upto - own.now.moment)) own.now.moment (class_at classes.old class) }
 {
     for class in 0..CLASSES as u8 {
         whole_in(own, classes, class, upto);
@@ -177,7 +193,11 @@ fn mixed_in<A: Allocator>(
     requires later { own.now.moment < upto }
     requires within { upto ≤ greatest_moment }
     ensures few { visits.new ≤ visits.old + most_asked own.now.history }
-    ensures mixed { mixed.new ≡ slice_set mixed.old class (stepped (is_mixed (gates own.now.history) class own.now.moment (upto - own.now.moment)) own.now.moment (class_at mixed.old class)) }
+    ensures mixed { mixed.new
+        ≡ slice_set mixed.old class
+        (stepped
+        (is_mixed (gates own.now.history) class own.now.moment
+        (upto - own.now.moment)) own.now.moment (class_at mixed.old class)) }
 {
     let now = own.now();
     let is_some = opens_before(own, class, upto, visits);
@@ -196,7 +216,11 @@ fn mixed_all<A: Allocator>(
     requires later { own.now.moment < upto }
     requires within { upto ≤ greatest_moment }
     ensures few { visits.new ≤ visits.old + most_asked own.now.history * CLASSES }
-    ensures mixed { (class : ℕ) → class < CLASSES → class_at mixed.new class ≡ stepped (is_mixed (gates own.now.history) class own.now.moment (upto - own.now.moment)) own.now.moment (class_at mixed.old class) }
+    ensures mixed { (class : ℕ) → class < CLASSES →
+        class_at mixed.new class
+        ≡ stepped
+        (is_mixed (gates own.now.history) class own.now.moment
+        (upto - own.now.moment)) own.now.moment (class_at mixed.old class) }
 {
     for class in 0..CLASSES as u8 {
         mixed_in(own, mixed, class, upto, visits);
@@ -243,8 +267,10 @@ fn mix_to<A: Allocator>(
     ensures sound { IsCurrent own.new.history own.new.moment }
     ensures moment { own.new.moment ≡ max own.old.moment upto }
     ensures history { own.new.history ≡ kept own.old.history own.new.moment }
-    ensures few { (n : ℕ) → upto ≤ own.old.moment + piece * n → visits.new ≤ visits.old + most_mixed own.old.history * n }
-    ensures drawn { IsDrawnInPieces (gates own.old.history) piece own.old.moment upto classes.old mixed.old classes.new mixed.new }
+    ensures few { (n : ℕ) → upto ≤ own.old.moment + piece * n →
+        visits.new ≤ visits.old + most_mixed own.old.history * n }
+    ensures drawn { IsDrawnInPieces
+        (gates own.old.history) piece own.old.moment upto classes.old mixed.old classes.new mixed.new }
 {
     let mut now = own.now();
     while now < upto {
@@ -277,7 +303,15 @@ impl<A: Allocator> Model for Bands<A> {
 
     ghost Value = { Drawing };
 
-    ghost view = { λ b. record { history = b.gates.history; moment = b.gates.moment; from = b.from; to = b.to; classes = b.classes; mixed = b.mixed; left = b.left } };
+    ghost view = { λ b. record {
+      history = b.gates.history;
+      moment = b.gates.moment;
+      from = b.from;
+      to = b.to;
+      classes = b.classes;
+      mixed = b.mixed;
+      left = b.left;
+    } };
 
     ghost invariant = { λ b. IsCurrent b.gates.history b.gates.moment };
 }
@@ -307,9 +341,14 @@ impl<A: Allocator> Bands<A> {
     pub fn install(&mut self, command: &Command, rate: Rate, lead: u128)
         requires ahead { self.old.moment < lead }
         requires within { lead ≤ greatest_moment + greatest_lead }
-        ensures drawing { self.new ≡ record self.old { history = history_with rate lead command.now self.old.history self.old.moment } }
-        ensures accepted { (p : AbstractPort) (change : ℕ) → p.history ≡ self.old.history → p.now ≡ self.old.moment → p.ps ≡ rate → p.now + lead_of p.ps p.mtu ≡ lead → (installs p command.now).0 ≡ Ok change → self.new.history ≡ (installs p command.now).1.history }
-        ensures hindsight { (n : ℕ) → n < lead → gates self.new.history n ≡ gates self.old.history n }
+        ensures drawing { self.new
+            ≡ record self.old { history = history_with rate lead command.now self.old.history self.old.moment } }
+        ensures accepted { (p : AbstractPort) (change : ℕ) → p.history ≡ self.old.history →
+            p.now ≡ self.old.moment → p.ps ≡ rate → p.now + lead_of p.ps p.mtu ≡ lead →
+            (installs p command.now).0 ≡ Ok change →
+            self.new.history ≡ (installs p command.now).1.history }
+        ensures hindsight { (n : ℕ) → n < lead →
+            gates self.new.history n ≡ gates self.old.history n }
     {
         match command {
             Command::Delete => self.delete(lead),
@@ -321,8 +360,13 @@ impl<A: Allocator> Bands<A> {
     fn delete(&mut self, lead: u128)
         requires ahead { self.old.moment < lead }
         requires within { lead ≤ greatest_moment + greatest_lead }
-        ensures drawing { self.new ≡ record self.old { history = with_command self.old.history self.old.moment (deletion_at lead) } }
-        ensures hindsight { (n : ℕ) → n < lead → gates self.new.history n ≡ gates self.old.history n }
+        ensures drawing { self.new
+            ≡ record self.old {
+              history = with_command self.old.history self.old.moment
+                  (deletion_at lead);
+            } }
+        ensures hindsight { (n : ℕ) → n < lead →
+            gates self.new.history n ≡ gates self.old.history n }
     {
         let _ = self.gates.delete(lead);
     }
@@ -331,8 +375,14 @@ impl<A: Allocator> Bands<A> {
     fn replace(&mut self, change: &Change, rate: Rate, lead: u128)
         requires ahead { self.old.moment < lead }
         requires within { lead ≤ greatest_moment + greatest_lead }
-        ensures drawing { self.new ≡ record self.old { history = with_plan (plan_fault rate (plan_asked change.now)) self.old.history self.old.moment (accepted_at lead (plan_asked change.now)) } }
-        ensures hindsight { (n : ℕ) → n < lead → gates self.new.history n ≡ gates self.old.history n }
+        ensures drawing { self.new
+            ≡ record self.old {
+              history = with_plan
+                  (plan_fault rate (plan_asked change.now)) self.old.history self.old.moment
+                  (accepted_at lead (plan_asked change.now));
+            } }
+        ensures hindsight { (n : ℕ) → n < lead →
+            gates self.new.history n ≡ gates self.old.history n }
     {
         match Schedule::new(
             &change.list,
@@ -351,9 +401,12 @@ impl<A: Allocator> Bands<A> {
     /// What was drawn is dropped: from now on nothing before `from` is drawn, in picoseconds, and nothing from `to` on,
     /// where it is given.
     pub fn begin_at(&mut self, from: u128, to: Option<u128>)
-        ensures gates { (self.new.history ≡ self.old.history) × (self.new.moment ≡ self.old.moment) }
-        ensures viewport { (self.new.from ≡ from) × (self.new.to ≡ to) × (self.new.left ≡ MOST_BOUNDARIES) }
-        ensures classes { (class : ℕ) → class < CLASSES → class_at self.new.classes class ≡ no_bands }
+        ensures gates { (self.new.history ≡ self.old.history)
+            × (self.new.moment ≡ self.old.moment) }
+        ensures viewport { (self.new.from ≡ from) × (self.new.to ≡ to)
+            × (self.new.left ≡ MOST_BOUNDARIES) }
+        ensures classes { (class : ℕ) → class < CLASSES →
+            class_at self.new.classes class ≡ no_bands }
         ensures mixed { (class : ℕ) → class < CLASSES → class_at self.new.mixed class ≡ no_bands }
     {
         clear_all(&mut self.classes);
@@ -373,7 +426,9 @@ impl<A: Allocator> Bands<A> {
         ensures history { self.new.history ≡ kept self.old.history moment }
         ensures viewport { (self.new.from ≡ self.old.from) × (self.new.to ≡ self.old.to) }
         ensures drawn { IsGoneOn self.old self.new moment }
-        ensures few { result + most_moved self.old.history * self.new.left ≤ most_moved self.old.history * (self.old.left + 3) + most_mixed self.old.history * (MAX_WIDTH + 1) }
+        ensures few { result + most_moved self.old.history * self.new.left
+            ≤ most_moved self.old.history * (self.old.left + 3) + most_mixed self.old.history *
+            (MAX_WIDTH + 1) }
     {
         let mut visits = Visits::zero();
         let first = self.from.max(self.gates.now()).min(moment);
@@ -401,9 +456,15 @@ impl<A: Allocator> Bands<A> {
 
     /// The bands of the classes that are open end now, or where the drawing ends if that is earlier.
     pub fn end(&mut self)
-        ensures same { (self.new.history ≡ self.old.history) × (self.new.moment ≡ self.old.moment) × (self.new.from ≡ self.old.from) × (self.new.to ≡ self.old.to) × (self.new.left ≡ self.old.left) }
-        ensures classes { (class : ℕ) → class < CLASSES → class_at self.new.classes class ≡ stepped false (up_to self.old.to self.old.moment) (class_at self.old.classes class) }
-        ensures mixed { (class : ℕ) → class < CLASSES → class_at self.new.mixed class ≡ stepped false (up_to self.old.to self.old.moment) (class_at self.old.mixed class) }
+        ensures same { (self.new.history ≡ self.old.history) × (self.new.moment ≡ self.old.moment)
+            × (self.new.from ≡ self.old.from) × (self.new.to ≡ self.old.to)
+            × (self.new.left ≡ self.old.left) }
+        ensures classes { (class : ℕ) → class < CLASSES →
+            class_at self.new.classes class
+            ≡ stepped false (up_to self.old.to self.old.moment) (class_at self.old.classes class) }
+        ensures mixed { (class : ℕ) → class < CLASSES →
+            class_at self.new.mixed class
+            ≡ stepped false (up_to self.old.to self.old.moment) (class_at self.old.mixed class) }
     {
         let upto = up_to(self.to, self.gates.now());
         step_all(&mut self.classes, 0, upto);

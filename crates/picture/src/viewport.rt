@@ -89,7 +89,8 @@ impl Viewport {
     /// What of a time lies in the viewport; none: nothing of it. A time of no length lies in it where its moment does.
     pub fn cut(&self, span: Span) -> Option<Span>
         ensures cut { result ≡ cut_to self.now span }
-        ensures within { IfSome result (λ s. (self.now.from ≤ s.from) × (s.from ≤ s.to) × (s.to ≤ self.now.to)) }
+        ensures within { IfSome result
+            (λ s. (self.now.from ≤ s.from) × (s.from ≤ s.to) × (s.to ≤ self.now.to)) }
     {
         let from = span.from.max(self.from);
         let to = span.to.min(self.to);

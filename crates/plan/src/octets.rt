@@ -32,7 +32,9 @@ fn read_some<A: Allocator, R: Read>(
     octets: &mut Vec<u8, A>,
     reader: &mut R,
 ) -> Result<bool, PlanFault>
-    ensures read { IfOk result (λ more. AddsSome more (R.remaining reader.old) (R.remaining reader.new) octets.old.items octets.new.items) }
+    ensures read { IfOk result
+        (λ more. AddsSome more (R.remaining reader.old)
+        (R.remaining reader.new) octets.old.items octets.new.items) }
     ensures why { IfErr result IsUnread }
 {
     let mut chunk = [0u8; CHUNK];
@@ -51,7 +53,8 @@ pub(crate) fn read_octets<A: Allocator, R: Read>(
     alloc: A,
     reader: &mut R,
 ) -> Result<Vec<u8, A>, PlanFault>
-    ensures read { IfOk result (λ octets. IfSome (R.remaining reader.old) (λ table. octets.items ≡ table)) }
+    ensures read { IfOk result
+        (λ octets. IfSome (R.remaining reader.old) (λ table. octets.items ≡ table)) }
     ensures why { IfErr result IsUnread }
 {
     let mut octets = Vec::new(alloc);

@@ -109,7 +109,8 @@ fn read_base(text: Option<&str>) -> Option<u64> {
 
 /// The settings of the values that are given, and of those that stand for the others. The first bad value is the fault.
 pub fn plan_given<'a>(words: &PlanWords<'a>) -> Result<PlanSettings<'a>, PlanValue>
-    ensures { IsGiven (settings_given greatest_moment (words_of_values words.now.port)) words.now.explain result }
+    ensures { IsGiven
+        (settings_given greatest_moment (words_of_values words.now.port)) words.now.explain result }
 {
     let port = match settings_given(words.port, MAX_MOMENT) {
         Ok(port) => port,
@@ -148,7 +149,8 @@ pub fn end_with_plan_value<B: Allocator, W: Write + Drop, E: Errors>(
     answers: BufWriter<W, B>,
     errors: &mut E,
 ) -> (Ended, W)
-    ensures { IsPlanRefusal value result.0 (writer_contents W.contents answers) (W.contents result.1) (E.contents errors.old) (E.contents errors.new) }
+    ensures { IsPlanRefusal value result.0 (writer_contents W.contents answers)
+        (W.contents result.1) (E.contents errors.old) (E.contents errors.new) }
 {
     let ended = say_plan_value(&value, errors);
     errors.found(FaultKind::Value(value.kind()));
@@ -215,7 +217,8 @@ pub fn answer_plan<B: Allocator, R: Read, W: Write + Drop, E: Errors, H: Watch>(
     watch: &mut H,
 ) -> (Ended, W)
     ensures { IsPlanEnding settings.now.port settings.now.explain (R.remaining table.old) result.0
-        (writer_contents W.contents answers) (W.contents result.1) (E.contents errors.old) (E.contents errors.new) }
+        (writer_contents W.contents answers) (W.contents result.1) (E.contents errors.old)
+        (E.contents errors.new) }
 {
     let planned = plan_for(alloc, table, settings, watch);
     let run = put_result(planned, settings.explain, &mut answers, errors);

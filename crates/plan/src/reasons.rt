@@ -49,7 +49,8 @@ pub(crate) fn put_reason<W: Write>(writer: &mut W, reason: Reason) -> Result<(),
 
 /// Writes the line of a reason with a number.
 fn put_number<W: Write>(writer: &mut W, text: &[u8], number: u128) -> Result<(), WriteFault>
-    ensures { Writes result (W.contents writer.old) (W.contents writer.new) (numbered text.now number) }
+    ensures { Writes result (W.contents writer.old) (W.contents writer.new)
+        (numbered text.now number) }
 {
     put_parts(
         writer,

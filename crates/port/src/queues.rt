@@ -54,7 +54,10 @@ pub(crate) fn waiting_in<A: Allocator>(queues: &[ClassQueue<A>; CLASSES], class:
 pub(crate) fn offer_to<A: Allocator>(queues: &mut [ClassQueue<A>; CLASSES], class: u8, frame: Frame)
     requires class { class < CLASSES }
     requires room { length (queue_at queues.old class).frames < (queue_at queues.old class).room }
-    ensures { queues.new ≡ slice_set queues.old class (with_frames (queue_at queues.old class) ((queue_at queues.old class).frames ++ frame ∷ [])) }
+    ensures { queues.new
+        ≡ slice_set queues.old class
+        (with_frames (queue_at queues.old class)
+        ((queue_at queues.old class).frames ++ frame ∷ [])) }
 {
     let _ = queues[class as usize].offer(frame);
 }
@@ -66,7 +69,9 @@ pub(crate) fn take_from<A: Allocator>(
 ) -> Option<Frame>
     requires { class < CLASSES }
     ensures head { result ≡ slice_get (queue_at queues.old class).frames 0 }
-    ensures rest { queues.new ≡ slice_set queues.old class (with_frames (queue_at queues.old class) (drop 1 (queue_at queues.old class).frames)) }
+    ensures rest { queues.new
+        ≡ slice_set queues.old class
+        (with_frames (queue_at queues.old class) (drop 1 (queue_at queues.old class).frames)) }
 {
     queues[class as usize].take()
 }

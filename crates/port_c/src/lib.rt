@@ -34,9 +34,13 @@ pub unsafe extern "C" fn taprio_port_new(
     told: &mut CAnswer,
 )
     requires* { sem 𝓛 (room_at the_row port) }
-    ensures* port { sem 𝓛 (lies_at the_row full_share port (opened_at rate mtu room told.new.kind)) }
-    ensures refused { IfSome (open_refusal rate mtu room) (λ fault. told.new ≡ record (answer 10) { reason = open_reason fault }) }
-    ensures memory { IfNone (open_refusal rate mtu room) ((told.new ≡ answer 9) ⊎ (told.new ≡ record (answer 10) { reason = open_reason OpenFault.Memory })) }
+    ensures* port { sem 𝓛 (lies_at the_row full_share port
+        (opened_at rate mtu room told.new.kind)) }
+    ensures refused { IfSome (open_refusal rate mtu room)
+        (λ fault. told.new ≡ record (answer 10) { reason = open_reason fault }) }
+    ensures memory { IfNone (open_refusal rate mtu room)
+        ((told.new ≡ answer 9)
+        ⊎ (told.new ≡ record (answer 10) { reason = open_reason OpenFault.Memory })) }
 {
     std::ptr::write(
         port as *mut PortSlot,
@@ -72,7 +76,8 @@ fn arrive(port: &mut PortSlot, frame: &CFrame, told: &mut CAnswer)
 pub unsafe extern "C" fn taprio_port_arrive(port: *mut u8, frame: &CFrame, told: &mut CAnswer)
     ghost held: { Option AbstractPort }
     requires* { sem 𝓛 (lies_at the_row full_share port held) }
-    ensures* port { sem 𝓛 (lies_at the_row full_share port (at_slot (arrives (frame_of frame.now)) held).1) }
+    ensures* port { sem 𝓛 (lies_at the_row full_share port
+        (at_slot (arrives (frame_of frame.now)) held).1) }
     ensures told { told.new ≡ (at_slot (arrives (frame_of frame.now)) held).0 }
 {
     arrive(&mut *(port as *mut PortSlot), frame, told)
@@ -94,7 +99,8 @@ pub unsafe extern "C" fn taprio_port_install(
 )
     ghost held: { Option AbstractPort }
     requires* { sem 𝓛 (lies_at the_row full_share port held) }
-    ensures* port { sem 𝓛 (lies_at the_row full_share port (at_slot (given (command_of schedule.now)) held).1) }
+    ensures* port { sem 𝓛 (lies_at the_row full_share port
+        (at_slot (given (command_of schedule.now)) held).1) }
     ensures told { told.new ≡ (at_slot (given (command_of schedule.now)) held).0 }
 {
     install(&mut *(port as *mut PortSlot), schedule, told)
@@ -112,7 +118,8 @@ fn delete(port: &mut PortSlot, told: &mut CAnswer)
 pub unsafe extern "C" fn taprio_port_delete(port: *mut u8, told: &mut CAnswer)
     ghost held: { Option AbstractPort }
     requires* { sem 𝓛 (lies_at the_row full_share port held) }
-    ensures* port { sem 𝓛 (lies_at the_row full_share port (at_slot (given (Ok Command.Delete)) held).1) }
+    ensures* port { sem 𝓛 (lies_at the_row full_share port
+        (at_slot (given (Ok Command.Delete)) held).1) }
     ensures told { told.new ≡ (at_slot (given (Ok Command.Delete)) held).0 }
 {
     delete(&mut *(port as *mut PortSlot), told)
@@ -135,7 +142,8 @@ pub unsafe extern "C" fn taprio_port_step(
 )
     ghost held: { Option AbstractPort }
     requires* { sem 𝓛 (lies_at the_row full_share port held) }
-    ensures* port { sem 𝓛 (lies_at the_row full_share port (at_slot (steps (moment_of until_low until_high)) held).1) }
+    ensures* port { sem 𝓛 (lies_at the_row full_share port
+        (at_slot (steps (moment_of until_low until_high)) held).1) }
     ensures told { told.new ≡ (at_slot (steps (moment_of until_low until_high)) held).0 }
 {
     step(&mut *(port as *mut PortSlot), until_low, until_high, told)

@@ -38,7 +38,10 @@ pub fn bounds_given<F: Files, B: Allocator, R: Read, W: Write + Drop, E: Errors,
     errors: &mut E,
     watch: &mut H,
 ) -> (Ended, W)
-    ensures ending { IsGivenBounds (bounds_in (found_of matches.now)) (first_value (found_of matches.now) (codes "table")) (R.remaining reader.old) result.0 (writer_contents W.contents answers) (W.contents result.1) (E.contents errors.old) (E.contents errors.new) }
+    ensures ending { IsGivenBounds (bounds_in (found_of matches.now))
+        (first_value (found_of matches.now) (codes "table")) (R.remaining reader.old) result.0
+        (writer_contents W.contents answers) (W.contents result.1) (E.contents errors.old)
+        (E.contents errors.new) }
     ensures unread { IfErr (bounds_in (found_of matches.now)) (λ _. reader.new ≡ reader.old) }
 {
     let Some(path) = matches.get_str("table") else {

@@ -51,9 +51,13 @@ pub fn answer_given<B: Allocator, R: Read, W: Write + Drop, E: Errors, H: Watch>
     watch: &mut H,
 ) -> (Ended, W)
     ensures ending { IsEnding whole_script (settings_in greatest_moment (found_of matches.now))
-        (R.remaining reader.old) result.0 (writer_contents W.contents answers) (W.contents result.1) (E.contents errors.old) (E.contents errors.new) }
-    ensures watched { Scripts.IsWatchedEnding H.alerted (settings_in greatest_moment (found_of matches.now)) (R.remaining reader.old) result.0 watch.old watch.new }
-    ensures unread { IfErr (settings_in greatest_moment (found_of matches.now)) (λ _. reader.new ≡ reader.old) }
+        (R.remaining reader.old) result.0 (writer_contents W.contents answers) (W.contents result.1)
+        (E.contents errors.old) (E.contents errors.new) }
+    ensures watched { Scripts.IsWatchedEnding H.alerted
+        (settings_in greatest_moment (found_of matches.now))
+        (R.remaining reader.old) result.0 watch.old watch.new }
+    ensures unread { IfErr (settings_in greatest_moment (found_of matches.now))
+        (λ _. reader.new ≡ reader.old) }
 {
     answer_script(alloc, values_of(matches), reader, answers, errors, watch)
 }
@@ -68,9 +72,12 @@ pub fn check_given<B: Allocator, R: Read, W: Write + Drop, E: Errors, H: Watch>(
     errors: &mut E,
     watch: &mut H,
 ) -> (Ended, W)
-    ensures ending { (tell : Teller) → IsTeller tell → IsEnding (whole_check tell) (checks_in (found_of matches.now))
-        (R.remaining reader.old) result.0 (writer_contents W.contents answers) (W.contents result.1) (E.contents errors.old) (E.contents errors.new) }
-    ensures watched { Checks.IsWatchedEnding H.alerted (checks_in (found_of matches.now)) (R.remaining reader.old) result.0 watch.old watch.new }
+    ensures ending { (tell : Teller) → IsTeller tell →
+        IsEnding (whole_check tell) (checks_in (found_of matches.now))
+        (R.remaining reader.old) result.0 (writer_contents W.contents answers) (W.contents result.1)
+        (E.contents errors.old) (E.contents errors.new) }
+    ensures watched { Checks.IsWatchedEnding H.alerted (checks_in (found_of matches.now))
+        (R.remaining reader.old) result.0 watch.old watch.new }
     ensures unread { IfErr (checks_in (found_of matches.now)) (λ _. reader.new ≡ reader.old) }
 {
     answer_check(alloc, checks_of(matches), reader, answers, errors, watch)
@@ -87,9 +94,12 @@ pub fn draw_given<B: Allocator, R: Read, W: Write + Drop, E: Errors, H: Watch>(
     errors: &mut E,
     watch: &mut H,
 ) -> (Ended, W)
-    ensures ending { IsDrawEnding (settings_in greatest_moment (found_of matches.now)) (draws_in (found_of matches.now))
-        (R.remaining reader.old) result.0 (writer_contents W.contents answers) (W.contents result.1) (E.contents errors.old) (E.contents errors.new) }
-    ensures unread { IfErr (settings_in greatest_moment (found_of matches.now)) (λ _. reader.new ≡ reader.old) }
+    ensures ending { IsDrawEnding (settings_in greatest_moment (found_of matches.now))
+        (draws_in (found_of matches.now)) (R.remaining reader.old) result.0
+        (writer_contents W.contents answers) (W.contents result.1) (E.contents errors.old)
+        (E.contents errors.new) }
+    ensures unread { IfErr (settings_in greatest_moment (found_of matches.now))
+        (λ _. reader.new ≡ reader.old) }
     ensures unused { IfErr (draws_in (found_of matches.now)) (λ _. reader.new ≡ reader.old) }
 {
     answer_draw(
@@ -109,7 +119,8 @@ fn end_usage<B: Allocator, W: Write + Drop, E: Write>(
     answers: BufWriter<W, B>,
     errors: &mut E,
 ) -> (Ended, W)
-    ensures { IsUsage text.now result.0 (writer_contents W.contents answers) (W.contents result.1) (E.contents errors.old) (E.contents errors.new) }
+    ensures { IsUsage text.now result.0 (writer_contents W.contents answers) (W.contents result.1)
+        (E.contents errors.old) (E.contents errors.new) }
 {
     let told = put(errors, text.as_bytes()).is_ok();
     end_told(Ended { status: 2, told }, answers)
@@ -117,7 +128,8 @@ fn end_usage<B: Allocator, W: Write + Drop, E: Write>(
 
 /// Writes a text through a buffer, and lets it out. Whether both are done.
 fn is_let_out<B: Allocator, W: Write + Drop>(text: &str, answers: &mut BufWriter<W, B>) -> bool
-    ensures told { Tells result (writer_contents W.contents answers.old) (writer_contents W.contents answers.new) text.now }
+    ensures told { Tells result (writer_contents W.contents answers.old)
+        (writer_contents W.contents answers.new) text.now }
     ensures empty { result ≡ true → writer_buffer answers.new ≡ [] }
 {
     if put(answers, text.as_bytes()).is_err() {
@@ -142,7 +154,8 @@ fn answer_refusal<B: Allocator, W: Write + Drop, E: Write>(
     answers: BufWriter<W, B>,
     errors: &mut E,
 ) -> (Ended, W)
-    ensures { IsRefusedBy (kind_of error.now) result.0 (writer_contents W.contents answers) (W.contents result.1) (E.contents errors.old) (E.contents errors.new) }
+    ensures { IsRefusedBy (kind_of error.now) result.0 (writer_contents W.contents answers)
+        (W.contents result.1) (E.contents errors.old) (E.contents errors.new) }
 {
     let Ok(text) = format!(in alloc; "{error}") else {
         return end_forgotten(answers, errors);
@@ -165,8 +178,11 @@ fn answer_job<F: Files, B: Allocator, R: Read, W: Write + Drop, E: Errors, H: Wa
     errors: &mut E,
     watch: &mut H,
 ) -> (Ended, W)
-    ensures ending { IsJobEnding name (found_of matches.now) (R.remaining reader.old) result.0 (writer_contents W.contents answers) (W.contents result.1) (E.contents errors.old) (E.contents errors.new) }
-    ensures watched { IsWatchedJob H.alerted name (found_of matches.now) (R.remaining reader.old) result.0 watch.old watch.new }
+    ensures ending { IsJobEnding name (found_of matches.now) (R.remaining reader.old) result.0
+        (writer_contents W.contents answers) (W.contents result.1) (E.contents errors.old)
+        (E.contents errors.new) }
+    ensures watched { IsWatchedJob H.alerted name (found_of matches.now)
+        (R.remaining reader.old) result.0 watch.old watch.new }
 {
     match name {
         JobName::Script => answer_given(alloc, matches, reader, answers, errors, watch),
@@ -219,7 +235,9 @@ fn answer_watched<
     progress: &mut Progress<'_, C, P>,
     terminal: bool,
 ) -> (Ended, Piped<W>)
-    ensures { IsWatchedEnding name (found_of matches.now) (R.remaining reader.old) result.0 (writer_contents (⟦<Piped<W> as Write>⟧.contents) answers) ((⟦<Piped<W> as Write>⟧.contents) result.1) }
+    ensures { IsWatchedEnding name (found_of matches.now) (R.remaining reader.old) result.0
+        (writer_contents (⟦<Piped<W> as Write>⟧.contents) answers)
+        ((⟦<Piped<W> as Write>⟧.contents) result.1) }
 {
     if is_given(matches, "progress") {
         progress.start();
@@ -252,7 +270,8 @@ fn answer_watched<
 /// The job that the words name, and what they give it.
 fn job_of<'m, 'a>(matches: &'m ArgMatches<'a>) -> Option<(JobName, &'m ArgMatches<'a>)>
     ensures some { IfSome result (λ found. IsFound matches.now found.0 found.1.now) }
-    ensures none { result ≡ None → (job : JobName) → subcommand_name_of matches.now ≡ Some (name_of job) → ⊥ }
+    ensures none { result ≡ None → (job : JobName) →
+        subcommand_name_of matches.now ≡ Some (name_of job) → ⊥ }
 {
     for job in &JOBS {
         if let Some(given) = matches.subcommand_matches(job.name.text()) {
@@ -283,7 +302,10 @@ pub(crate) fn answer_words<
     progress: &mut Progress<'_, C, P>,
     terminal: bool,
 ) -> (Ended, Piped<W>)
-    ensures { IsProgramEnding (map string_bytes words.now) (R.remaining reader.old) result.0 (writer_contents (⟦<Piped<W> as Write>⟧.contents) answers) ((⟦<Piped<W> as Write>⟧.contents) result.1) (E.contents errors.old) (E.contents errors.new) }
+    ensures { IsProgramEnding (map string_bytes words.now) (R.remaining reader.old) result.0
+        (writer_contents (⟦<Piped<W> as Write>⟧.contents) answers)
+        ((⟦<Piped<W> as Write>⟧.contents) result.1) (E.contents errors.old)
+        (E.contents errors.new) }
 {
     let Ok(command) = command(alloc) else {
         return end_forgotten(answers, errors);

@@ -36,9 +36,12 @@ fn frames_of_capture<F: Files, B: Allocator, R: Read, W: Write + Drop, E: Errors
     watch: &mut H,
 ) -> (Ended, W)
     ensures ending { IsGivenCapture (settings_in CAPTURE_END (found_of matches.now)) path.now
-        (R.remaining reader.old) result.0 (writer_contents W.contents answers) (W.contents result.1) (E.contents errors.old) (E.contents errors.new) }
-    ensures watched { IsWatchedBeside H.alerted (settings_in CAPTURE_END (found_of matches.now)) (R.remaining reader.old) result.0 watch.old watch.new }
-    ensures unread { IfErr (settings_in CAPTURE_END (found_of matches.now)) (λ _. reader.new ≡ reader.old) }
+        (R.remaining reader.old) result.0 (writer_contents W.contents answers) (W.contents result.1)
+        (E.contents errors.old) (E.contents errors.new) }
+    ensures watched { IsWatchedBeside H.alerted (settings_in CAPTURE_END (found_of matches.now))
+        (R.remaining reader.old) result.0 watch.old watch.new }
+    ensures unread { IfErr (settings_in CAPTURE_END (found_of matches.now))
+        (λ _. reader.new ≡ reader.old) }
 {
     let settings = match settings_given(values_of(matches), CAPTURE_END) {
         Ok(settings) => settings,
@@ -64,10 +67,15 @@ fn frames_of_script<F: Files, B: Allocator, R: Read, W: Write + Drop, E: Errors,
     errors: &mut E,
     watch: &mut H,
 ) -> (Ended, W)
-    ensures ending { IsGivenTable (settings_in greatest_moment (found_of matches.now)) (first_value (found_of matches.now) (codes "by-stream"))
-        (R.remaining reader.old) result.0 (writer_contents W.contents answers) (W.contents result.1) (E.contents errors.old) (E.contents errors.new) }
-    ensures watched { IsWatchedTable H.alerted (settings_in greatest_moment (found_of matches.now)) (first_value (found_of matches.now) (codes "by-stream")) (R.remaining reader.old) result.0 watch.old watch.new }
-    ensures unread { IfErr (settings_in greatest_moment (found_of matches.now)) (λ _. reader.new ≡ reader.old) }
+    ensures ending { IsGivenTable (settings_in greatest_moment (found_of matches.now))
+        (first_value (found_of matches.now) (codes "by-stream")) (R.remaining reader.old) result.0
+        (writer_contents W.contents answers) (W.contents result.1) (E.contents errors.old)
+        (E.contents errors.new) }
+    ensures watched { IsWatchedTable H.alerted (settings_in greatest_moment (found_of matches.now))
+        (first_value (found_of matches.now) (codes "by-stream"))
+        (R.remaining reader.old) result.0 watch.old watch.new }
+    ensures unread { IfErr (settings_in greatest_moment (found_of matches.now))
+        (λ _. reader.new ≡ reader.old) }
 {
     let values = values_of(matches);
     let Some(path) = matches.get_str("by-stream") else {
@@ -97,11 +105,17 @@ pub fn frames_given<F: Files, B: Allocator, R: Read, W: Write + Drop, E: Errors,
     errors: &mut E,
     watch: &mut H,
 ) -> (Ended, W)
-    ensures ending { IsGivenFrames (found_of matches.now) (first_value (found_of matches.now) (codes "capture")) (first_value (found_of matches.now) (codes "by-stream"))
-        (R.remaining reader.old) result.0 (writer_contents W.contents answers) (W.contents result.1) (E.contents errors.old) (E.contents errors.new) }
-    ensures watched { IsWatchedByFiles H.alerted (found_of matches.now) (first_value (found_of matches.now) (codes "capture")) (first_value (found_of matches.now) (codes "by-stream"))
+    ensures ending { IsGivenFrames (found_of matches.now)
+        (first_value (found_of matches.now) (codes "capture"))
+        (first_value (found_of matches.now) (codes "by-stream")) (R.remaining reader.old) result.0
+        (writer_contents W.contents answers) (W.contents result.1) (E.contents errors.old)
+        (E.contents errors.new) }
+    ensures watched { IsWatchedByFiles H.alerted (found_of matches.now)
+        (first_value (found_of matches.now) (codes "capture"))
+        (first_value (found_of matches.now) (codes "by-stream"))
         (R.remaining reader.old) result.0 watch.old watch.new }
-    ensures unread { IfErr (frames_settings (first_value (found_of matches.now) (codes "capture")) (found_of matches.now)) (λ _. reader.new ≡ reader.old) }
+    ensures unread { IfErr (frames_settings (first_value (found_of matches.now) (codes "capture"))
+        (found_of matches.now)) (λ _. reader.new ≡ reader.old) }
 {
     match matches.get_str("capture") {
         None => frames_of_script(files, alloc, matches, reader, answers, errors, watch),

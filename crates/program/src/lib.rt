@@ -66,7 +66,8 @@ fn end_forgotten<B: Allocator, W: Write + Drop, E: Write>(
     answers: BufWriter<W, B>,
     errors: &mut E,
 ) -> (Ended, W)
-    ensures { IsUnanswered 4 memory_text result.0 (writer_contents W.contents answers) (W.contents result.1) (E.contents errors.old) (E.contents errors.new) }
+    ensures { IsUnanswered 4 memory_text result.0 (writer_contents W.contents answers)
+        (W.contents result.1) (E.contents errors.old) (E.contents errors.new) }
 {
     end_told(end_without_memory(errors), answers)
 }

@@ -198,7 +198,8 @@ impl<'a, 'b, C: Clock, P: Write + Drop, E: Write> Onlooker<'a, 'b, C, P, E> {
     /// frame, or no frame with a deadline. A check without a command has written nothing.
     pub fn warn_of_nothing(&mut self, name: JobName, ended: Ended, is_written: bool)
         ensures kept { self.old.found ≡ true → self.new.found ≡ true }
-        ensures same { may_find_nothing name self.old.looks.frames self.old.has_deadlines ≡ false → self.new.found ≡ self.old.found }
+        ensures same { may_find_nothing name self.old.looks.frames self.old.has_deadlines ≡ false →
+            self.new.found ≡ self.old.found }
     {
         if ended.status != 0 {
             return;
@@ -302,7 +303,8 @@ impl<C: Clock, P: Write + Drop, E: Write> Watch for Onlooker<'_, '_, C, P, E> {
     ghost use Rattle.program.specs.Strict.{IsSeen, sight};
     ghost use Rattle.program.specs.StrictLaws.{none_seen, both_seen};
 
-    ghost alerted = { λ alerts s t. IsSeen alerts (sight s.looks.frames s.found s.has_deadlines) (sight t.looks.frames t.found t.has_deadlines) };
+    ghost alerted = { λ alerts s t. IsSeen alerts (sight s.looks.frames s.found s.has_deadlines)
+        (sight t.looks.frames t.found t.has_deadlines) };
 
     #[inline(always)]
     fn records_taken(&mut self, records: u32, moment: u128) {
@@ -426,5 +428,7 @@ impl<C: Clock, P: Write + Drop, E: Write> Watch for Onlooker<'_, '_, C, P, E> {
 
     ghost nothing = { λ s. none_seen (sight s.looks.frames s.found s.has_deadlines) };
 
-    ghost both = { λ xs ys s t u a b. both_seen xs ys (sight s.looks.frames s.found s.has_deadlines) (sight t.looks.frames t.found t.has_deadlines) (sight u.looks.frames u.found u.has_deadlines) a b };
+    ghost both = { λ xs ys s t u a b. both_seen xs ys (sight s.looks.frames s.found s.has_deadlines)
+        (sight t.looks.frames t.found t.has_deadlines)
+        (sight u.looks.frames u.found u.has_deadlines) a b };
 }

@@ -716,7 +716,8 @@ const STATUSES: &str =
 
 /// A job with its words as `clap` has it.
 fn command_of<'a>(alloc: Global, job: &Job) -> Result<Command<'a>, AllocError>
-    ensures app { IfOk result (λ command. app_of command ≡ record { top = shape_of_job job.now; subs = [] }) }
+    ensures app { IfOk result
+        (λ command. app_of command ≡ record { top = shape_of_job job.now; subs = [] }) }
     ensures local { IfOk result (λ command. (fields_of command).has_globals ≡ false) }
 {
     let mut command = Command::new(alloc, job.name.text())

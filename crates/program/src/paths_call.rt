@@ -30,7 +30,11 @@ pub fn paths_given<F: Files, B: Allocator, R: Read, W: Write + Drop, E: Errors, 
     errors: &mut E,
     watch: &mut H,
 ) -> (Ended, W)
-    ensures ending { IsGivenPaths (bounds_in (found_of matches.now)) (first_value (found_of matches.now) (codes "next")) (first_value (found_of matches.now) (codes "network")) (R.remaining reader.old) result.0 (writer_contents W.contents answers) (W.contents result.1) (E.contents errors.old) (E.contents errors.new) }
+    ensures ending { IsGivenPaths (bounds_in (found_of matches.now))
+        (first_value (found_of matches.now) (codes "next"))
+        (first_value (found_of matches.now) (codes "network")) (R.remaining reader.old) result.0
+        (writer_contents W.contents answers) (W.contents result.1) (E.contents errors.old)
+        (E.contents errors.new) }
     ensures unread { IfErr (bounds_in (found_of matches.now)) (λ _. reader.new ≡ reader.old) }
 {
     let next = value_of(matches, "next");

@@ -28,7 +28,11 @@ pub fn plan_for<F: Files, B: Allocator, W: Write + Drop, E: Errors, H: Watch>(
     errors: &mut E,
     watch: &mut H,
 ) -> (Ended, W)
-    ensures { IsGivenPlan (settings_in greatest_moment (found_of matches.now)) (flag_in (codes "explain") (found_of matches.now)) (first_value (found_of matches.now) (codes "table")) result.0 (writer_contents W.contents answers) (W.contents result.1) (E.contents errors.old) (E.contents errors.new) }
+    ensures { IsGivenPlan (settings_in greatest_moment (found_of matches.now))
+        (flag_in (codes "explain") (found_of matches.now))
+        (first_value (found_of matches.now) (codes "table")) result.0
+        (writer_contents W.contents answers) (W.contents result.1) (E.contents errors.old)
+        (E.contents errors.new) }
 {
     let words = plan_of(matches);
     let Some(path) = matches.get_str("table") else {

@@ -34,7 +34,8 @@ fn rate_of(records: u32, after: Duration) -> u128
 
 /// Writes parts, and lets them out. Whether both are done.
 fn put_out<E: Write>(writer: &mut E, parts: &[Part<'_>]) -> bool
-    ensures { Tells result (E.contents writer.old) (E.contents writer.new) (flat_map text_of parts.now) }
+    ensures { Tells result (E.contents writer.old) (E.contents writer.new)
+        (flat_map text_of parts.now) }
 {
     if put_parts(writer, parts).is_err() {
         return false;
@@ -45,7 +46,8 @@ fn put_out<E: Write>(writer: &mut E, parts: &[Part<'_>]) -> bool
 /// Writes the line of so many records, the last of which came at this moment, in picoseconds, and so long after the
 /// start, and lets it out. Whether both are done.
 fn put_line<E: Write>(writer: &mut E, records: u32, moment: u128, after: Duration) -> bool
-    ensures { Tells result (E.contents writer.old) (E.contents writer.new) (progress_line records moment (as_nanos after)) }
+    ensures { Tells result (E.contents writer.old) (E.contents writer.new)
+        (progress_line records moment (as_nanos after)) }
 {
     put_out(
         writer,
@@ -88,7 +90,8 @@ impl<'a, C: Clock, E: Write + Drop> Progress<'a, C, E> {
     /// Writes a line, where it is time for one. Apart, since mostly none is wanted.
     #[inline(never)]
     fn put_in_time(&mut self, begun: Instant, records: u32, moment: u128)
-        ensures { IsNoted records moment self.old.told self.new.told self.new.begun (E.contents self.old.writer) (E.contents self.new.writer) }
+        ensures { IsNoted records moment self.old.told self.new.told self.new.begun
+            (E.contents self.old.writer) (E.contents self.new.writer) }
     {
         let Ok(now) = Instant::now(self.clock) else {
             self.begun = None;
@@ -110,7 +113,8 @@ impl<C: Clock, E: Write + Drop> Progress<'_, C, E> {
     #[inline(always)]
     pub fn records_taken(&mut self, records: u32, moment: u128)
         ensures silent { self.old.begun ≡ None → self.new ≡ self.old }
-        ensures noted { IsNoted records moment self.old.told self.new.told self.new.begun (E.contents self.old.writer) (E.contents self.new.writer) }
+        ensures noted { IsNoted records moment self.old.told self.new.told self.new.begun
+            (E.contents self.old.writer) (E.contents self.new.writer) }
     {
         if let Some(begun) = self.begun {
             self.put_in_time(begun, records, moment);

@@ -129,7 +129,9 @@ fn open_all<'a, F: Files>(
     files: &F,
     matches: &ArgMatches<'a>,
 ) -> Result<Opened<F::File>, Unopened<'a>>
-    ensures { IfOk result (λ opened. first_value (found_of matches.now) (codes "capture") ≡ Some (codes "-") → opened.capture ≡ None) }
+    ensures { IfOk result
+        (λ opened. first_value (found_of matches.now) (codes "capture") ≡ Some (codes "-") →
+        opened.capture ≡ None) }
 {
     let script = match open(files, path_of(matches, "script")) {
         Ok(script) => script,
@@ -156,7 +158,8 @@ pub(crate) fn end_unopened<B: Allocator, W: Write + Drop, E: Errors>(
     answers: BufWriter<W, B>,
     errors: &mut E,
 ) -> (Ended, W)
-    ensures { IsUnanswered 4 (open_text path.now) result.0 (writer_contents W.contents answers) (W.contents result.1) (E.contents errors.old) (E.contents errors.new) }
+    ensures { IsUnanswered 4 (open_text path.now) result.0 (writer_contents W.contents answers)
+        (W.contents result.1) (E.contents errors.old) (E.contents errors.new) }
 {
     let ended = say_unopened(path, errors);
     errors.found(FaultKind::CannotOpen);
@@ -167,7 +170,8 @@ pub(crate) fn end_unopened<B: Allocator, W: Write + Drop, E: Errors>(
 /// write fails.
 fn say_over_input<W: Write>(path: &str, writer: &mut W) -> Ended
     ensures status { result.status ≡ 2 }
-    ensures told { IsTold result.told (W.contents writer.old) (W.contents writer.new) (over_input_text path.now) }
+    ensures told { IsTold result.told (W.contents writer.old) (W.contents writer.new)
+        (over_input_text path.now) }
 {
     let told = put_parts(
         writer,
@@ -187,7 +191,9 @@ fn end_over_input<B: Allocator, W: Write + Drop, E: Errors>(
     answers: BufWriter<W, B>,
     errors: &mut E,
 ) -> (Ended, W)
-    ensures { IsUnanswered 2 (over_input_text path.now) result.0 (writer_contents W.contents answers) (W.contents result.1) (E.contents errors.old) (E.contents errors.new) }
+    ensures { IsUnanswered 2 (over_input_text path.now) result.0
+        (writer_contents W.contents answers) (W.contents result.1) (E.contents errors.old)
+        (E.contents errors.new) }
 {
     let ended = say_over_input(path, errors);
     errors.found(FaultKind::OutIsInput);
@@ -208,7 +214,8 @@ fn end_untimed<B: Allocator, W: Write + Drop, E: Errors>(
     answers: BufWriter<W, B>,
     errors: &mut E,
 ) -> (Ended, W)
-    ensures { IsUnanswered 2 (timing_text bad) result.0 (writer_contents W.contents answers) (W.contents result.1) (E.contents errors.old) (E.contents errors.new) }
+    ensures { IsUnanswered 2 (timing_text bad) result.0 (writer_contents W.contents answers)
+        (W.contents result.1) (E.contents errors.old) (E.contents errors.new) }
 {
     let ended = say_timing(bad, errors);
     errors.found(FaultKind::Value(kind_of(bad)));
@@ -221,7 +228,8 @@ fn end_unbuffered<B: Allocator, W: Write + Drop, E: Errors>(
     answers: BufWriter<W, B>,
     errors: &mut E,
 ) -> (Ended, W)
-    ensures { IsUnanswered 4 memory_text result.0 (writer_contents W.contents answers) (W.contents result.1) (E.contents errors.old) (E.contents errors.new) }
+    ensures { IsUnanswered 4 memory_text result.0 (writer_contents W.contents answers)
+        (W.contents result.1) (E.contents errors.old) (E.contents errors.new) }
 {
     let ended = end_without_memory(errors);
     errors.found(FaultKind::OutOfMemory);
@@ -248,7 +256,8 @@ fn replay_files<
     watch: &mut P,
 ) -> (Ended, W)
     ensures { IsReplayed settings timing (S.remaining inputs.capture) result.0
-        (writer_contents W.contents report) (W.contents result.1) (E.contents errors.old) (E.contents errors.new) }
+        (writer_contents W.contents report) (W.contents result.1) (E.contents errors.old)
+        (E.contents errors.new) }
 {
     let outputs = Outputs { report, departures };
     let (ended, writer, _out) = answer_replay(
@@ -275,8 +284,9 @@ fn replay_opened<
     errors: &mut E,
     watch: &mut P,
 ) -> (Ended, W)
-    ensures { IsReplayedOrForgotten settings timing (option_map T.remaining opened.capture) (R.remaining reader.old) result.0
-        (writer_contents W.contents answers) (W.contents result.1) (E.contents errors.old) (E.contents errors.new) }
+    ensures { IsReplayedOrForgotten settings timing (option_map T.remaining opened.capture)
+        (R.remaining reader.old) result.0 (writer_contents W.contents answers) (W.contents result.1)
+        (E.contents errors.old) (E.contents errors.new) }
 {
     let Opened {
         script,
@@ -318,12 +328,18 @@ pub fn replay_given<F: Files, B: Allocator, R: Read, W: Write + Drop, E: Errors,
     errors: &mut E,
     watch: &mut P,
 ) -> (Ended, W)
-    ensures refused { IfErr (settings_in CAPTURE_END (found_of matches.now)) (λ value.
-        IsRefusal value result.0 (writer_contents W.contents answers) (W.contents result.1) (E.contents errors.old) (E.contents errors.new)) }
-    ensures unread { IfErr (settings_in CAPTURE_END (found_of matches.now)) (λ _. (reader.new ≡ reader.old) × (watch.new ≡ watch.old)) }
-    ensures ending { IsGivenReplay (found_of matches.now) (R.remaining reader.old) result.0 (writer_contents W.contents answers) (W.contents result.1) (E.contents errors.old) (E.contents errors.new) }
-    ensures untimed { OnOk (settings_in CAPTURE_END (found_of matches.now)) (IfErr (timing_in (found_of matches.now)) (λ bad.
-        IsUnanswered 2 (timing_text bad) result.0 (writer_contents W.contents answers) (W.contents result.1) (E.contents errors.old) (E.contents errors.new))) }
+    ensures refused { IfErr (settings_in CAPTURE_END (found_of matches.now))
+        (λ value. IsRefusal value result.0 (writer_contents W.contents answers)
+        (W.contents result.1) (E.contents errors.old) (E.contents errors.new)) }
+    ensures unread { IfErr (settings_in CAPTURE_END (found_of matches.now))
+        (λ _. (reader.new ≡ reader.old) × (watch.new ≡ watch.old)) }
+    ensures ending { IsGivenReplay (found_of matches.now) (R.remaining reader.old) result.0
+        (writer_contents W.contents answers) (W.contents result.1) (E.contents errors.old)
+        (E.contents errors.new) }
+    ensures untimed { OnOk (settings_in CAPTURE_END (found_of matches.now))
+        (IfErr (timing_in (found_of matches.now)) (λ bad.
+        IsUnanswered 2 (timing_text bad) result.0 (writer_contents W.contents answers)
+        (W.contents result.1) (E.contents errors.old) (E.contents errors.new))) }
 {
     let settings = match settings_given(values_of(matches), CAPTURE_END) {
         Ok(settings) => settings,

@@ -29,7 +29,10 @@ pub fn streams_given<F: Files, B: Allocator, R: Read, W: Write + Drop, E: Errors
     errors: &mut E,
     watch: &mut H,
 ) -> (Ended, W)
-    ensures ending { IsGivenStreams (plan_in (found_of matches.now)) (first_value (found_of matches.now) (codes "with")) (R.remaining reader.old) result.0 (writer_contents W.contents answers) (W.contents result.1) (E.contents errors.old) (E.contents errors.new) }
+    ensures ending { IsGivenStreams (plan_in (found_of matches.now))
+        (first_value (found_of matches.now) (codes "with")) (R.remaining reader.old) result.0
+        (writer_contents W.contents answers) (W.contents result.1) (E.contents errors.old)
+        (E.contents errors.new) }
     ensures unread { IfErr (plan_in (found_of matches.now)) (λ _. reader.new ≡ reader.old) }
 {
     let words = streams_of(matches);

@@ -9,8 +9,9 @@ use abstract_port::separation::separation;
 /// every `start` line has its gate open from its start to its end, by the history of its time and by that at the end;
 /// no two frames are on the wire at once; and the `count` lines are the counts over the events before them.
 pub fn faithful()
-    ensures { (s : Setup) (script : List Request) (entries : List Entry) → MIN_PS_PER_OCTET ≤ s.rate → MIN_MTU ≤ s.mtu
-        → IsFaithful (all_requests script entries s.until) (new_port s.rate s.mtu s.room) }
+    ensures { (s : Setup) (script : List Request) (entries : List Entry) →
+        MIN_PS_PER_OCTET ≤ s.rate → MIN_MTU ≤ s.mtu →
+        IsFaithful (all_requests script entries s.until) (new_port s.rate s.mtu s.room) }
 {}
 
 /// What is asked of the port are the lines of the script and the records of the capture, each source in its own order,
@@ -24,8 +25,10 @@ pub fn merge_law()
 /// of its starts, is that of the same requests without the other classes' arrivals; the clock events at their moments
 /// stay.
 pub fn separated()
-    ensures { (s : Setup) (script : List Request) (origin : Origin) → MIN_PS_PER_OCTET ≤ s.rate → MIN_MTU ≤ s.mtu
-        → IsSeparatedBy origin (all_requests script origin.entries s.until) (new_port s.rate s.mtu s.room) }
+    ensures { (s : Setup) (script : List Request) (origin : Origin) → MIN_PS_PER_OCTET ≤ s.rate →
+        MIN_MTU ≤ s.mtu →
+        IsSeparatedBy origin (all_requests script origin.entries s.until)
+        (new_port s.rate s.mtu s.room) }
 {
     separation();
 }

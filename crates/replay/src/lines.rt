@@ -25,11 +25,16 @@ fn put_line<A: Allocator, B: Allocator, W: PutLine, V: PutLine, P: Watch>(
     watch: &mut P,
 ) -> Result<(), Stop>
     requires kept { IsKept script.now.octets.items line }
-    requires together { IsTogether (state sending.old (V.contents report.old) (W.contents departures.old)) }
-    ensures together { OnOk result (IsTogether (state sending.new (V.contents report.new) (W.contents departures.new))) }
-    ensures answers { (read : List (List ℕ) → Result Command TcFault) → IsReader read
-        → (origin : Origin) → Keeps origin (state sending.old (V.contents report.old) (W.contents departures.old)) →
-        Answers origin result (kept_request read script.now.octets.items line ∷ []) (state sending.old (V.contents report.old) (W.contents departures.old)) (state sending.new (V.contents report.new) (W.contents departures.new)) }
+    requires together { IsTogether
+        (state sending.old (V.contents report.old) (W.contents departures.old)) }
+    ensures together { OnOk result
+        (IsTogether (state sending.new (V.contents report.new) (W.contents departures.new))) }
+    ensures answers { (read : List (List ℕ) → Result Command TcFault) → IsReader read →
+        (origin : Origin) →
+        Keeps origin (state sending.old (V.contents report.old) (W.contents departures.old)) →
+        Answers origin result (kept_request read script.now.octets.items line ∷ [])
+        (state sending.old (V.contents report.old) (W.contents departures.old))
+        (state sending.new (V.contents report.new) (W.contents departures.new)) }
 {
     one_reader();
     match line {
@@ -83,8 +88,11 @@ pub fn line_by<A: Allocator>(
     upto: u128,
 ) -> Option<KeptLine>
     ensures kept { IfSome result (IsKept script.now.octets.items) }
-    ensures fewer { IfSome result (λ _. (cursor.new.at ≡ cursor.old.at + 1) × (cursor.old.at < length script.now.lines.items)) }
-    ensures line { (read : List (List ℕ) → Result Command TcFault) → IsReader read → GivesLine read script.now upto result cursor.old cursor.new }
+    ensures fewer { IfSome result
+        (λ _. (cursor.new.at ≡ cursor.old.at + 1)
+        × (cursor.old.at < length script.now.lines.items)) }
+    ensures line { (read : List (List ℕ) → Result Command TcFault) → IsReader read →
+        GivesLine read script.now upto result cursor.old cursor.new }
 {
     let lines = script.lines.as_slice();
     if cursor.at >= lines.len() {
@@ -112,13 +120,20 @@ pub(crate) fn run_lines<A: Allocator, B: Allocator, W: PutLine, V: PutLine, P: W
     report: &mut V,
     watch: &mut P,
 ) -> Result<(), Stop>
-    requires together { IsTogether (state sending.old (V.contents report.old) (W.contents departures.old)) }
-    ensures together { OnOk result (IsTogether (state sending.new (V.contents report.new) (W.contents departures.new))) }
+    requires together { IsTogether
+        (state sending.old (V.contents report.old) (W.contents departures.old)) }
+    ensures together { OnOk result
+        (IsTogether (state sending.new (V.contents report.new) (W.contents departures.new))) }
     ensures left { (read : List (List ℕ) → Result Command TcFault) → IsReader read →
-        OnOk result (lines_left read script.now cursor.new ≡ lines_past upto (lines_left read script.now cursor.old)) }
-    ensures answers { (read : List (List ℕ) → Result Command TcFault) → IsReader read
-        → (origin : Origin) → Keeps origin (state sending.old (V.contents report.old) (W.contents departures.old)) →
-        Answers origin result (requests_of (lines_by upto (lines_left read script.now cursor.old))) (state sending.old (V.contents report.old) (W.contents departures.old)) (state sending.new (V.contents report.new) (W.contents departures.new)) }
+        OnOk result
+        (lines_left read script.now cursor.new
+        ≡ lines_past upto (lines_left read script.now cursor.old)) }
+    ensures answers { (read : List (List ℕ) → Result Command TcFault) → IsReader read →
+        (origin : Origin) →
+        Keeps origin (state sending.old (V.contents report.old) (W.contents departures.old)) →
+        Answers origin result (requests_of (lines_by upto (lines_left read script.now cursor.old)))
+        (state sending.old (V.contents report.old) (W.contents departures.old))
+        (state sending.new (V.contents report.new) (W.contents departures.new)) }
 {
     while let Some(line) = line_by(script, cursor, upto) {
         put_line(sending, script, line, departures, report, watch)?;

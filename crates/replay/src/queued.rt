@@ -99,7 +99,8 @@ pub(crate) fn put_queued<V: PutLine>(
     report: &mut V,
 ) -> Result<(), WriteFault>
     requires { class < CLASSES }
-    ensures { Writes result (V.contents report.old) (V.contents report.new) (answer_lines (arrival_answer frame.now (Ok class))) }
+    ensures { Writes result (V.contents report.old) (V.contents report.new)
+        (answer_lines (arrival_answer frame.now (Ok class))) }
 {
     let tens = frame.id / 10;
     if tens != line.tens {

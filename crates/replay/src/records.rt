@@ -33,11 +33,18 @@ fn take_record<A: Allocator + Clone, W: PutLine, V: PutLine, P: Watch>(
 ) -> Result<(), Stop>
     requires moment { moment ≤ CAPTURE_END }
     requires size { length record.now.octets.now ≤ MAX_RECORD_OCTETS }
-    requires together { IsTogether (state sending.old (V.contents report.old) (W.contents departures.old)) }
-    ensures together { OnOk result (IsTogether (state sending.new (V.contents report.new) (W.contents departures.new))) }
-    ensures answers { (origin : Origin) → kept_in origin.entries number ≡ kept record.now.original record.now.octets.now
-        → Keeps origin (state sending.old (V.contents report.old) (W.contents departures.old)) →
-        Answers origin result (Asks (Events.Clock moment) ∷ Asks (Events.Arrive (frame_of (entry record.now) number)) ∷ []) (state sending.old (V.contents report.old) (W.contents departures.old)) (state sending.new (V.contents report.new) (W.contents departures.new)) }
+    requires together { IsTogether
+        (state sending.old (V.contents report.old) (W.contents departures.old)) }
+    ensures together { OnOk result
+        (IsTogether (state sending.new (V.contents report.new) (W.contents departures.new))) }
+    ensures answers { (origin : Origin) →
+        kept_in origin.entries number ≡ kept record.now.original record.now.octets.now →
+        Keeps origin (state sending.old (V.contents report.old) (W.contents departures.old)) →
+        Answers origin result
+        (Asks (Events.Clock moment) ∷ Asks
+        (Events.Arrive (frame_of (entry record.now) number)) ∷ [])
+        (state sending.old (V.contents report.old) (W.contents departures.old))
+        (state sending.new (V.contents report.new) (W.contents departures.new)) }
 {
     put_clock(sending, moment, departures, report)?;
     let frame = frame_of(record, u64::from(number));
@@ -73,7 +80,8 @@ fn let_out_before<C: Allocator, R: Read, W: Write, V: Write>(
     ensures report { Holds (V.contents report.old) (V.contents report.new) }
     ensures departures { Holds (W.contents departures.old) (W.contents departures.new) }
     ensures fault { IfErr result (λ fault. fault ≡ Stops.Write) }
-    ensures in_hand { holds_record (left records.now).format (left records.now).in_hand ≡ true → (result ≡ Ok tt) × (report.new ≡ report.old) × (departures.new ≡ departures.old) }
+    ensures in_hand { holds_record (left records.now).format (left records.now).in_hand ≡ true →
+        (result ≡ Ok tt) × (report.new ≡ report.old) × (departures.new ≡ departures.old) }
 {
     if records.has_record() {
         return Ok(());
@@ -94,9 +102,13 @@ fn advance<C: Allocator, R: Read, W: Write, V: Write>(
     ensures report { Holds (V.contents report.old) (V.contents report.new) }
     ensures departures { Holds (W.contents departures.old) (W.contents departures.new) }
     ensures fault { IfErr result (λ fault. fault ≡ Stops.Write) }
-    ensures in_hand { holds_record (left records.old).format (left records.old).in_hand ≡ true → (report.new ≡ report.old) × (departures.new ≡ departures.old) }
-    ensures next { IfOk result (λ answer. Next R.remaining (left records.old) (shown records.new answer) (left records.new)) }
-    ensures few { IfOk result (λ answer. IfOk answer (λ o. IsSome o → (left records.old).number < MAX_RECORDS)) }
+    ensures in_hand { holds_record (left records.old).format (left records.old).in_hand ≡ true →
+        (report.new ≡ report.old) × (departures.new ≡ departures.old) }
+    ensures next { IfOk result
+        (λ answer. Next R.remaining (left records.old) (shown records.new answer)
+        (left records.new)) }
+    ensures few { IfOk result
+        (λ answer. IfOk answer (λ o. IsSome o → (left records.old).number < MAX_RECORDS)) }
     ensures given { IfOk result (λ answer. IfOk answer (λ o. IfSome o (HasGiven records.new))) }
 {
     if let Some(header) = records.take_in_hand() {
@@ -128,13 +140,19 @@ pub(crate) fn run_records<
     report: &mut V,
     watch: &mut P,
 ) -> Result<Option<(u32, CapFault)>, Stop>
-    requires together { IsTogether (state sending.old (V.contents report.old) (W.contents departures.old)) }
+    requires together { IsTogether
+        (state sending.old (V.contents report.old) (W.contents departures.old)) }
     requires begun { (left records.old).ended ≡ None }
     requires first { (left records.old).number ≡ 0 }
-    ensures together { OnOk result (IsTogether (state sending.new (V.contents report.new) (W.contents departures.new))) }
-    ensures records { (read : List (List ℕ) → Result Command TcFault) → IsReader read
-        → (origin : Origin) (last : End) → ComesMoved shift R.remaining (left records.old) origin.entries last →
-        RunsRecords origin last (lines_left read script.now cursor.old) (lines_left read script.now cursor.new) (state sending.old (V.contents report.old) (W.contents departures.old)) (state sending.new (V.contents report.new) (W.contents departures.new)) result }
+    ensures together { OnOk result
+        (IsTogether (state sending.new (V.contents report.new) (W.contents departures.new))) }
+    ensures records { (read : List (List ℕ) → Result Command TcFault) → IsReader read →
+        (origin : Origin) (last : End) →
+        ComesMoved shift R.remaining (left records.old) origin.entries last →
+        RunsRecords origin last (lines_left read script.now cursor.old)
+        (lines_left read script.now cursor.new)
+        (state sending.old (V.contents report.old) (W.contents departures.old))
+        (state sending.new (V.contents report.new) (W.contents departures.new)) result }
 {
     let mut latest = 0u128;
     let mut number = 0u32;

@@ -23,10 +23,14 @@ fn let_out<W: Write + Drop, V: Write + Drop, A: Allocator, B: Allocator>(
     departures: &mut BufWriter<V, B>,
 ) -> Result<(), ReplayFault>
     ensures kept { (result ≡ run) ⊎ (result ≡ Err Faults.Write) }
-    ensures out { ((writer_buffer report.new ≡ []) × (writer_buffer departures.new ≡ [])) ⊎ (result ≡ Err Faults.Write) }
-    ensures report { Keeps (writer_contents W.contents report.old) (writer_contents W.contents report.new) }
-    ensures departures { Keeps (writer_contents V.contents departures.old) (writer_contents V.contents departures.new) }
-    ensures once { run ≡ Err Faults.Write → (report.new ≡ report.old) × (departures.new ≡ departures.old) }
+    ensures out { ((writer_buffer report.new ≡ []) × (writer_buffer departures.new ≡ []))
+        ⊎ (result ≡ Err Faults.Write) }
+    ensures report { Keeps (writer_contents W.contents report.old)
+        (writer_contents W.contents report.new) }
+    ensures departures { Keeps (writer_contents V.contents departures.old)
+        (writer_contents V.contents departures.new) }
+    ensures once { run ≡ Err Faults.Write →
+        (report.new ≡ report.old) × (departures.new ≡ departures.old) }
 {
     if run == Err(ReplayFault::Write) {
         return run;
@@ -80,9 +84,12 @@ pub fn answer_replay<
     errors: &mut E,
     watch: &mut P,
 ) -> (Ended, W, V)
-    ensures { IsReplayEnding settings timing (R.remaining inputs.script) (S.remaining inputs.capture) result.0
-        (got (writer_contents W.contents outputs.report) (writer_contents V.contents outputs.departures)) (got (W.contents result.1) (V.contents result.2))
-        (E.contents errors.old) (E.contents errors.new) }
+    ensures { IsReplayEnding settings timing (R.remaining inputs.script)
+        (S.remaining inputs.capture) result.0
+        (got (writer_contents W.contents outputs.report)
+        (writer_contents V.contents outputs.departures))
+        (got (W.contents result.1) (V.contents result.2)) (E.contents errors.old)
+        (E.contents errors.new) }
 {
     let run = replay_timed(
         alloc,

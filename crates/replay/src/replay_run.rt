@@ -58,9 +58,12 @@ fn run_on<A: Allocator, W: PutLine, V: PutLine, P: Watch>(
     watch: &mut P,
 ) -> Result<(), Stop>
     requires until { is_too_late until ≡ false }
-    requires together { IsTogether (state sending.old (V.contents report.old) (W.contents departures.old)) }
-    ensures { (origin : Origin) → Keeps origin (state sending.old (V.contents report.old) (W.contents departures.old)) →
-        PutsBoth result (got (V.contents report.old) (W.contents departures.old)) (got (V.contents report.new) (W.contents departures.new))
+    requires together { IsTogether
+        (state sending.old (V.contents report.old) (W.contents departures.old)) }
+    ensures { (origin : Origin) →
+        Keeps origin (state sending.old (V.contents report.old) (W.contents departures.old)) →
+        PutsBoth result (got (V.contents report.old) (W.contents departures.old))
+        (got (V.contents report.new) (W.contents departures.new))
         (told_to_end origin [] until sending.old.port.port sending.old.summary) }
 {
     let from = sending.port.now();
@@ -83,11 +86,15 @@ fn finish<A: Allocator, B: Allocator, W: PutLine, V: PutLine, P: Watch>(
     watch: &mut P,
 ) -> Result<(), Stop>
     requires until { is_too_late until ≡ false }
-    requires together { IsTogether (state sending.old (V.contents report.old) (W.contents departures.old)) }
-    ensures { (read : List (List ℕ) → Result Command TcFault) → IsReader read
-        → (origin : Origin) → Keeps origin (state sending.old (V.contents report.old) (W.contents departures.old)) →
-        PutsBoth result (got (V.contents report.old) (W.contents departures.old)) (got (V.contents report.new) (W.contents departures.new))
-        (told_to_end origin (requests_of (lines_left read script.now cursor.old)) until sending.old.port.port sending.old.summary) }
+    requires together { IsTogether
+        (state sending.old (V.contents report.old) (W.contents departures.old)) }
+    ensures { (read : List (List ℕ) → Result Command TcFault) → IsReader read → (origin : Origin) →
+        Keeps origin (state sending.old (V.contents report.old) (W.contents departures.old)) →
+        PutsBoth result (got (V.contents report.old) (W.contents departures.old))
+        (got (V.contents report.new) (W.contents departures.new))
+        (told_to_end origin
+        (requests_of
+        (lines_left read script.now cursor.old)) until sending.old.port.port sending.old.summary) }
 {
     run_lines(
         sending,
@@ -123,14 +130,22 @@ fn run<A: Allocator + Clone, B: Allocator, C: Allocator, R: Read, W: PutLine, V:
     watch: &mut P,
 ) -> Result<(), ReplayFault>
     requires until { is_too_late until ≡ false }
-    requires together { IsTogether (state sending.old (V.contents report.old) (W.contents departures.old)) }
+    requires together { IsTogether
+        (state sending.old (V.contents report.old) (W.contents departures.old)) }
     requires begun { (left records.old).ended ≡ None }
     requires first { (left records.old).number ≡ 0 }
-    ensures { (read : List (List ℕ) → Result Command TcFault) → IsReader read
-        → (origin : Origin) (last : End) → ComesMoved shift R.remaining (left records.old) origin.entries last
-        → Keeps origin (state sending.old (V.contents report.old) (W.contents departures.old)) →
-        Ends result (got (V.contents report.old) (W.contents departures.old)) (got (V.contents report.new) (W.contents departures.new))
-        (record { output = told_to_end origin (merged (timed_from 0 (kept_requests read script.now.octets.items script.now.lines.items)) (came_from 0 0 origin.entries)) until sending.old.port.port sending.old.summary; fault = end_fault (length origin.entries) last }) }
+    ensures { (read : List (List ℕ) → Result Command TcFault) → IsReader read →
+        (origin : Origin) (last : End) →
+        ComesMoved shift R.remaining (left records.old) origin.entries last →
+        Keeps origin (state sending.old (V.contents report.old) (W.contents departures.old)) →
+        Ends result (got (V.contents report.old) (W.contents departures.old))
+        (got (V.contents report.new) (W.contents departures.new))
+        (record {
+          output = told_to_end origin
+              (merged (timed_from 0 (kept_requests read script.now.octets.items script.now.lines.items))
+              (came_from 0 0 origin.entries)) until sending.old.port.port sending.old.summary;
+          fault = end_fault (length origin.entries) last;
+        }) }
 {
     let mut cursor = Cursor { at: 0, clock: 0 };
     let broken = run_records(
@@ -189,12 +204,15 @@ fn begin<A: Allocator + Clone, W: Write>(
     summary: Option<Summary<A>>,
     departures: &mut W,
 ) -> Result<Sending<A>, Stop>
-    ensures port { IfOk result (λ s. s.port.port ≡ new_port settings.rate settings.mtu settings.room) }
+    ensures port { IfOk result
+        (λ s. s.port.port ≡ new_port settings.rate settings.mtu settings.room) }
     ensures store { IfOk result (λ s. s.store ≡ new_store settings.room) }
     ensures seen { IfOk result (λ s. s.summary ≡ summary) }
     ensures stamping { IfOk result (λ s. s.leaving.stamping ≡ stamping_at stamp settings.rate) }
     ensures sound { IfOk result (λ s. IsSoundPort s.port.port) }
-    ensures out { (report : Option (List ℕ)) → PutsBoth result (got report (W.contents departures.old)) (got report (W.contents departures.new)) header }
+    ensures out { (report : Option (List ℕ)) →
+        PutsBoth result (got report (W.contents departures.old))
+        (got report (W.contents departures.new)) header }
 {
     let rate = settings.rate();
     // For the prover: the getter says within which limits a rate lies.
@@ -251,10 +269,16 @@ pub fn replay_timed<A: Allocator, R: Read + Drop, S: Read + Drop, W: PutLine, V:
     timing: Timing,
     watch: &mut P,
 ) -> Result<(), ReplayFault>
-    ensures replay { (read : List (List ℕ) → Result Command TcFault) → IsReader read → IfSome (R.remaining script) (λ lines. IfSome (S.remaining capture) (λ octets.
+    ensures replay { (read : List (List ℕ) → Result Command TcFault) → IsReader read →
+        IfSome (R.remaining script)
+        (λ lines. IfSome (S.remaining capture) (λ octets.
         (records : Result (List Entry × End) CapFault) → ReadsAs octets records →
-        Ends result (got (V.contents report.old) (W.contents departures.old)) (got (V.contents report.new) (W.contents departures.new)) (timed_outcome read settings timing lines records))) }
-    ensures late { is_too_late settings.until ≡ true → (result ≡ Err (Faults.Input Inputs.Until)) × (departures.new ≡ departures.old) × (report.new ≡ report.old) }
+        Ends result (got (V.contents report.old) (W.contents departures.old))
+        (got (V.contents report.new) (W.contents departures.new))
+        (timed_outcome read settings timing lines records))) }
+    ensures late { is_too_late settings.until ≡ true →
+        (result ≡ Err (Faults.Input Inputs.Until)) × (departures.new ≡ departures.old)
+        × (report.new ≡ report.old) }
 {
     let until = settings.until();
     if is_too_late(until) {
@@ -289,10 +313,16 @@ pub fn replay<A: Allocator, R: Read + Drop, S: Read + Drop, W: PutLine, V: PutLi
     stamp: Stamp,
     watch: &mut P,
 ) -> Result<(), ReplayFault>
-    ensures replay { (read : List (List ℕ) → Result Command TcFault) → IsReader read → IfSome (R.remaining script) (λ lines. IfSome (S.remaining capture) (λ octets.
+    ensures replay { (read : List (List ℕ) → Result Command TcFault) → IsReader read →
+        IfSome (R.remaining script)
+        (λ lines. IfSome (S.remaining capture) (λ octets.
         (records : Result (List Entry × End) CapFault) → ReadsAs octets records →
-        Ends result (got (V.contents report.old) (W.contents departures.old)) (got (V.contents report.new) (W.contents departures.new)) (outcome_of read settings stamp lines records))) }
-    ensures late { is_too_late settings.until ≡ true → (result ≡ Err (Faults.Input Inputs.Until)) × (departures.new ≡ departures.old) × (report.new ≡ report.old) }
+        Ends result (got (V.contents report.old) (W.contents departures.old))
+        (got (V.contents report.new) (W.contents departures.new))
+        (outcome_of read settings stamp lines records))) }
+    ensures late { is_too_late settings.until ≡ true →
+        (result ≡ Err (Faults.Input Inputs.Until)) × (departures.new ≡ departures.old)
+        × (report.new ≡ report.old) }
 {
     let timing = Timing { stamp, shift: None };
     replay_timed(

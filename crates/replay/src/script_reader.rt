@@ -22,7 +22,9 @@ fn keep_octets<A: Allocator>(
 ) -> Result<KeptLine, AllocError>
     ensures lines { script.new.lines.items ≡ script.old.lines.items }
     ensures kept { OnOk result (script.new.octets.items ≡ script.old.octets.items ++ octets.now) }
-    ensures place { IfOk result (λ line. line ≡ KeptLine.Tc (length script.old.octets.items) (length script.new.octets.items) number) }
+    ensures place { IfOk result
+        (λ line. line
+        ≡ KeptLine.Tc (length script.old.octets.items) (length script.new.octets.items) number) }
 {
     let start = script.octets.len();
     script.octets.extend_from_slice(octets)?;
@@ -40,8 +42,14 @@ fn kept_line<A: Allocator>(
     requires { IsEarly line }
     ensures lines { script.new.lines.items ≡ script.old.lines.items }
     ensures within { IfOk result (λ kept. IsKept script.new.octets.items kept) }
-    ensures says { (read : List (List ℕ) → Result Command TcFault) → IfOk result (λ kept. kept_request read script.new.octets.items kept ≡ line_request (read (words_of octets.now)) line) }
-    ensures others { (read : List (List ℕ) → Result Command TcFault) → OnOk result (kept_requests read script.new.octets.items script.old.lines.items ≡ kept_requests read script.old.octets.items script.old.lines.items) }
+    ensures says { (read : List (List ℕ) → Result Command TcFault) →
+        IfOk result
+        (λ kept. kept_request read script.new.octets.items kept
+        ≡ line_request (read (words_of octets.now)) line) }
+    ensures others { (read : List (List ℕ) → Result Command TcFault) →
+        OnOk result
+        (kept_requests read script.new.octets.items script.old.lines.items
+        ≡ kept_requests read script.old.octets.items script.old.lines.items) }
 {
     match line {
         Line::Clock(moment) => Ok(KeptLine::Clock(moment)),
@@ -59,8 +67,11 @@ fn keep<A: Allocator>(
     number: u32,
 ) -> Result<(), AllocError>
     requires { IsEarly line }
-    ensures { (read : List (List ℕ) → Result Command TcFault) → OnOk result (kept_requests read script.new.octets.items script.new.lines.items
-        ≡ kept_requests read script.old.octets.items script.old.lines.items ++ line_request (read (words_of octets.now)) line ∷ []) }
+    ensures { (read : List (List ℕ) → Result Command TcFault) →
+        OnOk result
+        (kept_requests read script.new.octets.items script.new.lines.items
+        ≡ kept_requests read script.old.octets.items script.old.lines.items
+        ++ line_request (read (words_of octets.now)) line ∷ []) }
 {
     let kept = kept_line(script, line, octets, number)?;
     script.lines.push(kept)?;
@@ -73,8 +84,11 @@ fn keep_lines<A: Allocator, B: Allocator, R: Read + Drop, P: Watch>(
     lines: &mut LineReader<R, B>,
     watch: &mut P,
 ) -> Result<(), ReplayFault>
-    ensures rest { (read : List (List ℕ) → Result Command TcFault) → IsReader read → IfSome (script_left R.remaining lines.old) (λ rest.
-        ReadsRest result (kept_requests read script.old.octets.items script.old.lines.items) (reading_of read rest) (kept_requests read script.new.octets.items script.new.lines.items)) }
+    ensures rest { (read : List (List ℕ) → Result Command TcFault) → IsReader read →
+        IfSome (script_left R.remaining lines.old)
+        (λ rest. ReadsRest result
+        (kept_requests read script.old.octets.items script.old.lines.items) (reading_of read rest)
+        (kept_requests read script.new.octets.items script.new.lines.items)) }
     ensures read { result ≡ Err Faults.Read → how_ended lines.new ≡ Some (Err LineFaults.Read) }
     ensures alerts { P.alerted [] watch.old watch.new }
 {
@@ -102,8 +116,9 @@ pub fn read_script<A: Allocator + Clone, R: Read + Drop, P: Watch>(
     reader: R,
     watch: &mut P,
 ) -> Result<KeptScript<A>, ReplayFault>
-    ensures script { (read : List (List ℕ) → Result Command TcFault) → IsReader read → IfSome (R.remaining reader) (λ input.
-        GivesScript read result (reading_of read (script_of input))) }
+    ensures script { (read : List (List ℕ) → Result Command TcFault) → IsReader read →
+        IfSome (R.remaining reader)
+        (λ input. GivesScript read result (reading_of read (script_of input))) }
     ensures alerts { P.alerted [] watch.old watch.new }
 {
     let mut lines = LineReader::new(alloc.clone()?, reader)?;

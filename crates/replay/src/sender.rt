@@ -56,7 +56,8 @@ fn put_backward<A: Allocator, V: PutLine>(
     now: u128,
     report: &mut V,
 ) -> Result<(), WriteFault>
-    ensures text { Writes result (V.contents report.old) (V.contents report.new) (answer_lines Answered.Backward) }
+    ensures text { Writes result (V.contents report.old) (V.contents report.new)
+        (answer_lines Answered.Backward) }
     ensures seen { summary.new ≡ noted now Answered.Backward summary.old }
 {
     let answer = Answer::Backward;
@@ -73,7 +74,8 @@ fn put_noted_start<A: Allocator, V: PutLine>(
     start: &Start,
     report: &mut V,
 ) -> Result<(), WriteFault>
-    ensures text { Writes result (V.contents report.old) (V.contents report.new) (answer_lines (Answered.Start start.now)) }
+    ensures text { Writes result (V.contents report.old) (V.contents report.new)
+        (answer_lines (Answered.Start start.now)) }
     ensures seen { summary.new ≡ noted now (Answered.Start start.now) summary.old }
 {
     note_start(summary, now, start);
@@ -88,7 +90,8 @@ fn put_noted_arrival<A: Allocator, V: PutLine>(
     verdict: Result<u8, Dropped>,
     report: &mut V,
 ) -> Result<(), WriteFault>
-    ensures text { Writes result (V.contents report.old) (V.contents report.new) (answer_lines (arrival_answer frame.now verdict)) }
+    ensures text { Writes result (V.contents report.old) (V.contents report.new)
+        (answer_lines (arrival_answer frame.now verdict)) }
     ensures seen { summary.new ≡ noted now (arrival_answer frame.now verdict) summary.old }
 {
     note_verdict(summary, now, frame, verdict);
@@ -106,7 +109,8 @@ fn put_noted_queued<A: Allocator, V: PutLine>(
     report: &mut V,
 ) -> Result<(), WriteFault>
     requires { class < CLASSES }
-    ensures text { Writes result (V.contents report.old) (V.contents report.new) (answer_lines (arrival_answer frame.now (Ok class))) }
+    ensures text { Writes result (V.contents report.old) (V.contents report.new)
+        (answer_lines (arrival_answer frame.now (Ok class))) }
     ensures seen { summary.new ≡ noted now (arrival_answer frame.now (Ok class)) summary.old }
 {
     note_verdict(summary, now, frame, Ok(class));
@@ -127,8 +131,15 @@ fn put_record<A: Allocator, W: PutLine>(
     ensures seen { sending.new.summary ≡ sending.old.summary }
     ensures stamping { sending.new.leaving.stamping ≡ sending.old.leaving.stamping }
     ensures last { sending.new.leaving.last ≡ sending.old.leaving.last }
-    ensures store { OnOk result (sending.new.store ≡ record sending.old.store { kept = slice_set sending.old.store.kept start.class (drop 1 (kept_at sending.old.store.kept start.class)) }) }
-    ensures out { Writes result (W.contents departures.old) (W.contents departures.new) (start_record (stamped sending.old.leaving.stamping start) (first_kept sending.old.store start.class)) }
+    ensures store { OnOk result
+        (sending.new.store
+        ≡ record sending.old.store {
+          kept = slice_set sending.old.store.kept start.class
+              (drop 1 (kept_at sending.old.store.kept start.class));
+        }) }
+    ensures out { Writes result (W.contents departures.old) (W.contents departures.new)
+        (start_record (stamped sending.old.leaving.stamping start)
+        (first_kept sending.old.store start.class)) }
     ensures fault { IfErr result (λ fault. fault ≡ Stops.Write) }
 {
     let moment = stamped(sending.leaving.stamping, start);
@@ -161,9 +172,20 @@ fn put_start<A: Allocator, W: PutLine, V: PutLine>(
     ensures seen { sending.new.summary ≡ noted now (Answered.Start start) sending.old.summary }
     ensures stamping { sending.new.leaving.stamping ≡ sending.old.leaving.stamping }
     ensures last { OnOk result (sending.new.leaving.last ≡ start.«end») }
-    ensures store { OnOk result (sending.new.store ≡ record sending.old.store { kept = slice_set sending.old.store.kept start.class (drop 1 (kept_at sending.old.store.kept start.class)) }) }
-    ensures out { PutsBoth result (record { report = V.contents report.old; departures = W.contents departures.old }) (record { report = V.contents report.new; departures = W.contents departures.new })
-        (record { report = answer_lines (Answered.Start start); departures = start_record (stamped sending.old.leaving.stamping start) (first_kept sending.old.store start.class) }) }
+    ensures store { OnOk result
+        (sending.new.store
+        ≡ record sending.old.store {
+          kept = slice_set sending.old.store.kept start.class
+              (drop 1 (kept_at sending.old.store.kept start.class));
+        }) }
+    ensures out { PutsBoth result
+        (record { report = V.contents report.old; departures = W.contents departures.old })
+        (record { report = V.contents report.new; departures = W.contents departures.new })
+        (record {
+          report = answer_lines (Answered.Start start);
+          departures = start_record (stamped sending.old.leaving.stamping start)
+              (first_kept sending.old.store start.class);
+        }) }
     ensures fault { IfErr result (λ fault. fault ≡ Stops.Write) }
 {
     put_noted_start(
@@ -187,11 +209,18 @@ fn put_each_start<A: Allocator, W: PutLine, V: PutLine>(
 ) -> Result<(), Stop>
     requires later { sending.old.port.port.now ≤ until }
     requires within { until ≤ CAPTURE_END }
-    requires together { IsTogether (state sending.old (V.contents report.old) (W.contents departures.old)) }
-    ensures together { OnOk result (IsTogether (state sending.new (V.contents report.new) (W.contents departures.new))) }
-    ensures starts { (origin : Origin) → Keeps origin (state sending.old (V.contents report.old) (W.contents departures.old)) →
-        AnswersStarts origin result until (state sending.old (V.contents report.old) (W.contents departures.old)) (state sending.new (V.contents report.new) (W.contents departures.new)) }
-    ensures last { OnOk result (sending.new.leaving.last ≡ last_end sending.old.leaving.last (starts_until sending.old.port.port until).0) }
+    requires together { IsTogether
+        (state sending.old (V.contents report.old) (W.contents departures.old)) }
+    ensures together { OnOk result
+        (IsTogether (state sending.new (V.contents report.new) (W.contents departures.new))) }
+    ensures starts { (origin : Origin) →
+        Keeps origin (state sending.old (V.contents report.old) (W.contents departures.old)) →
+        AnswersStarts origin result until
+        (state sending.old (V.contents report.old) (W.contents departures.old))
+        (state sending.new (V.contents report.new) (W.contents departures.new)) }
+    ensures last { OnOk result
+        (sending.new.leaving.last
+        ≡ last_end sending.old.leaving.last (starts_until sending.old.port.port until).0) }
     ensures fault { IfErr result (λ fault. fault ≡ Stops.Write) }
 {
     let now = sending.port.now();
@@ -212,11 +241,18 @@ pub(crate) fn put_clock<A: Allocator, W: PutLine, V: PutLine>(
     report: &mut V,
 ) -> Result<(), Stop>
     requires within { moment ≤ CAPTURE_END }
-    requires together { IsTogether (state sending.old (V.contents report.old) (W.contents departures.old)) }
-    ensures together { OnOk result (IsTogether (state sending.new (V.contents report.new) (W.contents departures.new))) }
-    ensures answers { (origin : Origin) → Keeps origin (state sending.old (V.contents report.old) (W.contents departures.old)) →
-        Answers origin result (Asks (Events.Clock moment) ∷ []) (state sending.old (V.contents report.old) (W.contents departures.old)) (state sending.new (V.contents report.new) (W.contents departures.new)) }
-    ensures last { OnOk result (sending.new.leaving.last ≡ last_end sending.old.leaving.last (starts_until sending.old.port.port moment).0) }
+    requires together { IsTogether
+        (state sending.old (V.contents report.old) (W.contents departures.old)) }
+    ensures together { OnOk result
+        (IsTogether (state sending.new (V.contents report.new) (W.contents departures.new))) }
+    ensures answers { (origin : Origin) →
+        Keeps origin (state sending.old (V.contents report.old) (W.contents departures.old)) →
+        Answers origin result (Asks (Events.Clock moment) ∷ [])
+        (state sending.old (V.contents report.old) (W.contents departures.old))
+        (state sending.new (V.contents report.new) (W.contents departures.new)) }
+    ensures last { OnOk result
+        (sending.new.leaving.last
+        ≡ last_end sending.old.leaving.last (starts_until sending.old.port.port moment).0) }
     ensures fault { IfErr result (λ fault. fault ≡ Stops.Write) }
 {
     let now = sending.port.now();
@@ -243,9 +279,12 @@ pub(crate) fn put_arrival<A: Allocator + Clone, V: PutLine, P: Watch>(
     requires together { IsTogether (state sending.old (V.contents report.old) None) }
     requires size { length octets.now ≤ MAX_RECORD_OCTETS }
     ensures together { OnOk result (IsTogether (state sending.new (V.contents report.new) None)) }
-    ensures answers { (origin : Origin) (captured : Option (List ℕ)) → kept_in origin.entries frame.id ≡ kept original octets.now
-        → Keeps origin (state sending.old (V.contents report.old) captured) →
-        Answers origin result (Asks (Events.Arrive frame) ∷ []) (state sending.old (V.contents report.old) captured) (state sending.new (V.contents report.new) captured) }
+    ensures answers { (origin : Origin) (captured : Option (List ℕ)) →
+        kept_in origin.entries frame.id ≡ kept original octets.now →
+        Keeps origin (state sending.old (V.contents report.old) captured) →
+        Answers origin result (Asks (Events.Arrive frame) ∷ [])
+        (state sending.old (V.contents report.old) captured)
+        (state sending.new (V.contents report.new) captured) }
     ensures fault { IfErr result (λ fault. (fault ≡ Stops.Write) ⊎ (fault ≡ Stops.Memory)) }
 {
     let came = sending.port.now();

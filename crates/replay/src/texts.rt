@@ -48,7 +48,8 @@ fn put_record_fault<W: Write>(
     number: u32,
     fault: CapFault,
 ) -> Result<(), WriteFault>
-    ensures { Writes result (W.contents writer.old) (W.contents writer.new) (record_text number fault) }
+    ensures { Writes result (W.contents writer.old) (W.contents writer.new)
+        (record_text number fault) }
 {
     put_parts(
         writer,
@@ -67,7 +68,8 @@ fn put_capture_fault<W: Write>(
     number: u32,
     fault: CapFault,
 ) -> Result<(), WriteFault>
-    ensures { Writes result (W.contents writer.old) (W.contents writer.new) (capture_text number fault) }
+    ensures { Writes result (W.contents writer.old) (W.contents writer.new)
+        (capture_text number fault) }
 {
     match fault {
         CapFault::ShortHeader => put_header_fault(writer, CapFault::ShortHeader),
@@ -148,7 +150,8 @@ impl InputFault for ReplayInput {
 /// Writes the text of a path that can't be opened. The exit status that goes with it is 4, also where that write fails.
 pub fn say_unopened<W: Write>(path: &str, writer: &mut W) -> Ended
     ensures status { result.status ≡ 4 }
-    ensures told { IsTold result.told (W.contents writer.old) (W.contents writer.new) (open_text path.now) }
+    ensures told { IsTold result.told (W.contents writer.old) (W.contents writer.new)
+        (open_text path.now) }
 {
     let told = put_parts(
         writer,

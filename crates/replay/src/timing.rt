@@ -69,7 +69,8 @@ fn timing_text(bad: BadTiming) -> &'static [u8]
 /// Writes the text of a word that is bad. The exit status that goes with it is 2, also where that write fails.
 pub fn say_timing<W: Write>(bad: BadTiming, writer: &mut W) -> Ended
     ensures status { result.status ≡ 2 }
-    ensures told { IsTold result.told (W.contents writer.old) (W.contents writer.new) (timing_text bad) }
+    ensures told { IsTold result.told (W.contents writer.old) (W.contents writer.new)
+        (timing_text bad) }
 {
     let told = put(writer, timing_text(bad)).is_ok();
     Ended { status: 2, told }

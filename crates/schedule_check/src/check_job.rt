@@ -25,12 +25,20 @@ pub fn answer_check<A: Allocator, B: Allocator, R: Read, W: Write + Drop, E: Err
     errors: &mut E,
     watch: &mut H,
 ) -> (Ended, W)
-    ensures ending { let given = checks_given (octets_of words.entry.rate) (octets_of words.entry.mtu) (octets_of words.entry.map) (octets_of words.entry.frame) words.entry.shares words.entry.windows words.entry.script in
-        (tell : Teller) → IsTeller tell → IsEnding (whole_check tell) given
-        (R.remaining reader.old) result.0 (writer_contents W.contents answers) (W.contents result.1) (E.contents errors.old) (E.contents errors.new) }
-    ensures watched { let given = checks_given (octets_of words.entry.rate) (octets_of words.entry.mtu) (octets_of words.entry.map) (octets_of words.entry.frame) words.entry.shares words.entry.windows words.entry.script in
+    ensures ending { let given = checks_given (octets_of words.entry.rate)
+        (octets_of words.entry.mtu) (octets_of words.entry.map)
+        (octets_of words.entry.frame) words.entry.shares words.entry.windows words.entry.script in
+        (tell : Teller) → IsTeller tell →
+        IsEnding (whole_check tell) given (R.remaining reader.old) result.0
+        (writer_contents W.contents answers) (W.contents result.1) (E.contents errors.old)
+        (E.contents errors.new) }
+    ensures watched { let given = checks_given (octets_of words.entry.rate)
+        (octets_of words.entry.mtu) (octets_of words.entry.map)
+        (octets_of words.entry.frame) words.entry.shares words.entry.windows words.entry.script in
         IsWatchedEnding H.alerted given (R.remaining reader.old) result.0 watch.old watch.new }
-    ensures unread { let given = checks_given (octets_of words.entry.rate) (octets_of words.entry.mtu) (octets_of words.entry.map) (octets_of words.entry.frame) words.entry.shares words.entry.windows words.entry.script in
+    ensures unread { let given = checks_given (octets_of words.entry.rate)
+        (octets_of words.entry.mtu) (octets_of words.entry.map)
+        (octets_of words.entry.frame) words.entry.shares words.entry.windows words.entry.script in
         IfErr given (λ _. reader.new ≡ reader.old) }
 {
     match checks_given(words) {

@@ -15,7 +15,8 @@ fn put_class<W: Write>(writer: &mut W, class: u8) -> Result<(), WriteFault>
 
 /// Writes a space and a number for each class.
 pub(crate) fn put_classes<W: Write>(writer: &mut W, classes: &[u8]) -> Result<(), WriteFault>
-    ensures { Writes result (W.contents writer.old) (W.contents writer.new) (flat_map class_word classes.now) }
+    ensures { Writes result (W.contents writer.old) (W.contents writer.new)
+        (flat_map class_word classes.now) }
 {
     for class in classes {
         put_class(writer, *class)?;

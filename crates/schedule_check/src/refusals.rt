@@ -38,7 +38,8 @@ fn map_refusal(map: Option<ClassMap>, change: &Change) -> Option<Refused>
 
 /// The refusal for its size limits that a change meets at a port of this mtu, in octets.
 fn limit_refusal(mtu: u32, change: &Change) -> Option<Refused>
-    ensures { (ps room : ℕ) (map : Option ClassMap) → result ≡ limit_refusal (port_with ps mtu room map) change.now }
+    ensures { (ps room : ℕ) (map : Option ClassMap) →
+        result ≡ limit_refusal (port_with ps mtu room map) change.now }
 {
     match &change.max_sdu {
         None => None,

@@ -36,7 +36,8 @@ pub fn class_count(map: Option<ClassMap>) -> u8
 fn add_apart(classes: &mut ArrayVec<u8, CLASSES>, schedule: &Schedule, class: u8)
     requires within { class < CLASSES }
     requires room { array_vec_len classes.old ≤ class }
-    ensures items { classes.new.items ≡ classes.old.items ++ itself_apart class schedule.now.entries }
+    ensures items { classes.new.items
+        ≡ classes.old.items ++ itself_apart class schedule.now.entries }
     ensures few { array_vec_len classes.new ≤ class + 1 }
 {
     if schedule.keeps_apart(class) {
@@ -58,7 +59,8 @@ pub fn classes_apart(schedule: &Schedule, count: u8) -> ArrayVec<u8, CLASSES>
 
 /// Writes the line of some classes.
 fn put_some<W: Write>(writer: &mut W, classes: &[u8]) -> Result<(), WriteFault>
-    ensures { Writes result (W.contents writer.old) (W.contents writer.new) (some_line classes.now) }
+    ensures { Writes result (W.contents writer.old) (W.contents writer.new)
+        (some_line classes.now) }
 {
     put(writer, b"apart")?;
     put_classes(writer, classes)?;
@@ -67,7 +69,8 @@ fn put_some<W: Write>(writer: &mut W, classes: &[u8]) -> Result<(), WriteFault>
 
 /// Writes the line of classes that are kept apart.
 pub fn put_apart<W: Write>(writer: &mut W, classes: &[u8]) -> Result<(), WriteFault>
-    ensures { Writes result (W.contents writer.old) (W.contents writer.new) (apart_line classes.now) }
+    ensures { Writes result (W.contents writer.old) (W.contents writer.new)
+        (apart_line classes.now) }
 {
     match classes {
         [] => put(writer, b"apart none\n"),
@@ -77,7 +80,8 @@ pub fn put_apart<W: Write>(writer: &mut W, classes: &[u8]) -> Result<(), WriteFa
 
 /// Whether some priority leads to a class of this share of a cycle, which is never open.
 fn never_opens(settings: &CheckSettings, change: &Change, class: u8, share: u64) -> bool
-    requires { share ≡ open_total (alone (plan_asked change.now)) class (in_ps (plan_asked change.now).cycle) }
+    requires { share ≡ open_total (alone (plan_asked change.now)) class
+        (in_ps (plan_asked change.now).cycle) }
     ensures { result ≡ never_opens settings.now change.now class }
 {
     share == 0 && is_led_after(settings.map, change.map, class)
@@ -132,7 +136,8 @@ fn put_schedule<W: Write>(
     requires plan { schedule.now ≡ plan_asked change.now }
     requires accepted { plan_fault settings.now.rate (plan_asked change.now) ≡ None }
     ensures { (tell : Teller) → IsTeller tell →
-        Writes result (W.contents writer.old) (W.contents writer.new) (change_lines tell settings.now change.now) }
+        Writes result (W.contents writer.old) (W.contents writer.new)
+        (change_lines tell settings.now change.now) }
 {
     let count = class_count(map_after(settings.map, change.map));
     put_apart(writer, &classes_apart(schedule, count))?;
@@ -150,8 +155,10 @@ fn put_change<W: Write, H: Watch>(
     watch: &mut H,
 ) -> Result<(), WriteFault>
     ensures text { (tell : Teller) → IsTeller tell →
-        Writes result (W.contents writer.old) (W.contents writer.new) (change_lines tell settings.now change.now) }
-    ensures alerts { H.alerted (alert_of (line_wrong settings.now (Ok (Replace change.now)))) watch.old watch.new }
+        Writes result (W.contents writer.old) (W.contents writer.new)
+        (change_lines tell settings.now change.now) }
+    ensures alerts { H.alerted
+        (alert_of (line_wrong settings.now (Ok (Replace change.now)))) watch.old watch.new }
 {
     let schedule = Schedule::new(
         &change.list,
@@ -184,7 +191,8 @@ fn put_verdict<W: Write, H: Watch>(
     watch: &mut H,
 ) -> Result<(), WriteFault>
     ensures text { (tell : Teller) → IsTeller tell →
-        Writes result (W.contents writer.old) (W.contents writer.new) (verdict_lines tell settings.now read) }
+        Writes result (W.contents writer.old) (W.contents writer.new)
+        (verdict_lines tell settings.now read) }
     ensures alerts { H.alerted (alert_of (line_wrong settings.now read)) watch.old watch.new }
 {
     match read {
@@ -216,10 +224,13 @@ pub(crate) fn put_line<W: Write, H: Watch>(
     line: &[u8],
     watch: &mut H,
 ) -> Result<(), WriteFault>
-    ensures text { (tell : Teller) → IsTeller tell → (read : List (List ℕ) → Result Command TcFault) → IsReader read →
-        Writes result (W.contents writer.old) (W.contents writer.new) (verdict_lines tell settings.now (read (words_of line.now))) }
+    ensures text { (tell : Teller) → IsTeller tell →
+        (read : List (List ℕ) → Result Command TcFault) → IsReader read →
+        Writes result (W.contents writer.old) (W.contents writer.new)
+        (verdict_lines tell settings.now (read (words_of line.now))) }
     ensures alerts { (read : List (List ℕ) → Result Command TcFault) → IsReader read →
-        H.alerted (alert_of (line_wrong settings.now (read (words_of line.now)))) watch.old watch.new }
+        H.alerted
+        (alert_of (line_wrong settings.now (read (words_of line.now)))) watch.old watch.new }
 {
     let read = read_tc(line);
     tell_read(number, line, &read, watch);

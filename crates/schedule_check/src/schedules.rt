@@ -54,11 +54,15 @@ fn check_lines<A: Allocator, R: Read + Drop, W: Write, H: Watch>(
     settings: &CheckSettings,
     watch: &mut H,
 ) -> Result<(), RunFault>
-    ensures text { (tell : Teller) → IsTeller tell → (read : List (List ℕ) → Result Command TcFault) → IsReader read
-        → IfSome (script_left R.remaining lines.old) (λ script.
-        RunsOut result (W.contents writer.old) (W.contents writer.new) (checked_in settings.now.script read (verdict_lines tell settings.now) script)) }
-    ensures alerts { (read : List (List ℕ) → Result Command TcFault) → IsReader read → IfSome (script_left R.remaining lines.old) (λ script.
-        Watched H.alerted (alerts_in settings.now read script) result watch.old watch.new) }
+    ensures text { (tell : Teller) → IsTeller tell →
+        (read : List (List ℕ) → Result Command TcFault) → IsReader read →
+        IfSome (script_left R.remaining lines.old)
+        (λ script. RunsOut result (W.contents writer.old) (W.contents writer.new)
+        (checked_in settings.now.script read (verdict_lines tell settings.now) script)) }
+    ensures alerts { (read : List (List ℕ) → Result Command TcFault) → IsReader read →
+        IfSome (script_left R.remaining lines.old)
+        (λ script. Watched H.alerted
+        (alerts_in settings.now read script) result watch.old watch.new) }
 {
     'lines: while next_line::<BadLine, _, _, _>(lines, writer)? {
         let line = lines.line();
@@ -93,10 +97,13 @@ pub fn check<A: Allocator, R: Read + Drop, W: Write, H: Watch>(
     settings: CheckSettings,
     watch: &mut H,
 ) -> Result<(), RunFault>
-    ensures text { (tell : Teller) → IsTeller tell → (read : List (List ℕ) → Result Command TcFault) → IsReader read
-        → IfSome (R.remaining reader) (λ input.
-        RunsOut result (W.contents writer.old) (W.contents writer.new) (checked_of settings.script read (verdict_lines tell settings) input)) }
-    ensures watched { IsWatchedCheck H.alerted settings (R.remaining reader) result watch.old watch.new }
+    ensures text { (tell : Teller) → IsTeller tell →
+        (read : List (List ℕ) → Result Command TcFault) → IsReader read →
+        IfSome (R.remaining reader)
+        (λ input. RunsOut result (W.contents writer.old) (W.contents writer.new)
+        (checked_of settings.script read (verdict_lines tell settings) input)) }
+    ensures watched { IsWatchedCheck H.alerted settings
+        (R.remaining reader) result watch.old watch.new }
 {
     let mut lines = LineReader::new(&alloc, reader)?;
     check_lines(&mut lines, writer, &settings, watch)

@@ -82,7 +82,10 @@ fn given_length(text: Option<&str>) -> Option<Option<u32>>
 
 /// The settings of the values that are given, and of those that stand for the others. The first bad value is the fault.
 pub fn checks_given(words: CheckWords<'_>) -> Result<CheckSettings, BadValue>
-    ensures { result ≡ checks_given (octets_of words.entry.rate) (octets_of words.entry.mtu) (octets_of words.entry.map) (octets_of words.entry.frame) words.entry.shares words.entry.windows words.entry.script }
+    ensures { result
+        ≡ checks_given (octets_of words.entry.rate) (octets_of words.entry.mtu)
+        (octets_of words.entry.map)
+        (octets_of words.entry.frame) words.entry.shares words.entry.windows words.entry.script }
 {
     let port = Values {
         rate: words.rate,

@@ -49,7 +49,8 @@ fn classes_sharing(schedule: &Schedule, class: u8, count: u8) -> ArrayVec<u8, CL
 
 /// Writes the line of a class and some others.
 fn put_with<W: Write>(writer: &mut W, class: u8, others: &[u8]) -> Result<(), WriteFault>
-    ensures { Writes result (W.contents writer.old) (W.contents writer.new) (with_line class others.now) }
+    ensures { Writes result (W.contents writer.old) (W.contents writer.new)
+        (with_line class others.now) }
 {
     put_parts(
         writer,
@@ -65,7 +66,8 @@ fn put_with<W: Write>(writer: &mut W, class: u8, others: &[u8]) -> Result<(), Wr
 
 /// Writes the line of a class and those that share windows with it, where some do.
 fn put_sharing<W: Write>(writer: &mut W, class: u8, others: &[u8]) -> Result<(), WriteFault>
-    ensures { Writes result (W.contents writer.old) (W.contents writer.new) (shares_line class others.now) }
+    ensures { Writes result (W.contents writer.old) (W.contents writer.new)
+        (shares_line class others.now) }
 {
     match others {
         [] => put_parts(writer, &[]),
@@ -76,7 +78,8 @@ fn put_sharing<W: Write>(writer: &mut W, class: u8, others: &[u8]) -> Result<(),
 /// Writes the lines of the classes below a count.
 fn put_each<W: Write>(writer: &mut W, schedule: &Schedule, count: u8) -> Result<(), WriteFault>
     requires { count ≤ CLASSES }
-    ensures { Writes result (W.contents writer.old) (W.contents writer.new) (open_lines (sharing_line schedule.now count) count 0) }
+    ensures { Writes result (W.contents writer.old) (W.contents writer.new)
+        (open_lines (sharing_line schedule.now count) count 0) }
 {
     for class in 0..count {
         put_sharing(writer, class, &classes_sharing(schedule, class, count))?;
@@ -93,7 +96,8 @@ pub(crate) fn put_shares<W: Write>(
     count: u8,
 ) -> Result<(), WriteFault>
     requires { count ≤ CLASSES }
-    ensures { Writes result (W.contents writer.old) (W.contents writer.new) (asked_lines asked (sharing_line schedule.now count) count) }
+    ensures { Writes result (W.contents writer.old) (W.contents writer.new)
+        (asked_lines asked (sharing_line schedule.now count) count) }
 {
     if !asked {
         return Ok(());

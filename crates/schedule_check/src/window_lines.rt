@@ -73,7 +73,8 @@ fn put_given_wait<W: Write>(
     frame: Option<u32>,
 ) -> Result<(), WriteFault>
     requires { class < CLASSES }
-    ensures { Writes result (W.contents writer.old) (W.contents writer.new) (given_wait_text rate schedule.now class frame) }
+    ensures { Writes result (W.contents writer.old) (W.contents writer.new)
+        (given_wait_text rate schedule.now class frame) }
 {
     match frame {
         None => put_parts(writer, &[]),
@@ -99,7 +100,8 @@ fn put_waits<W: Write>(
     longest: Longest,
 ) -> Result<(), WriteFault>
     requires { class < CLASSES }
-    ensures { Writes result (W.contents writer.old) (W.contents writer.new) (waits_text rate schedule.now class frame longest) }
+    ensures { Writes result (W.contents writer.old) (W.contents writer.new)
+        (waits_text rate schedule.now class frame longest) }
 {
     let wait = longest_wait_of(schedule, rate, class, longest);
     put_parts(writer, &[Part::Text(b" wait "), wait_part(wait)])?;
@@ -109,7 +111,8 @@ fn put_waits<W: Write>(
 
 /// Writes the line of a class up to how long its frames wait.
 fn put_window<W: Write>(writer: &mut W, class: u8, window: &Window) -> Result<(), WriteFault>
-    ensures { Writes result (W.contents writer.old) (W.contents writer.new) (window_line class window.now) }
+    ensures { Writes result (W.contents writer.old) (W.contents writer.new)
+        (window_line class window.now) }
 {
     put_parts(
         writer,
@@ -157,7 +160,9 @@ fn put_open<W: Write>(
     window: &Window,
 ) -> Result<(), WriteFault>
     requires { class < CLASSES }
-    ensures { Writes result (W.contents writer.old) (W.contents writer.new) (window_line class window.now ++ waits_text settings.now.rate schedule.now class settings.now.frame window.now.longest_frame) }
+    ensures { Writes result (W.contents writer.old) (W.contents writer.new)
+        (window_line class window.now
+        ++ waits_text settings.now.rate schedule.now class settings.now.frame window.now.longest_frame) }
 {
     put_window(writer, class, window)?;
     put_waits(
@@ -180,7 +185,9 @@ fn put_told<W: Write>(
     window: &Window,
 ) -> Result<(), WriteFault>
     requires { class < CLASSES }
-    ensures { Writes result (W.contents writer.old) (W.contents writer.new) (told_line led class window.now (waits_text settings.now.rate schedule.now class settings.now.frame window.now.longest_frame)) }
+    ensures { Writes result (W.contents writer.old) (W.contents writer.new)
+        (told_line led class window.now
+        (waits_text settings.now.rate schedule.now class settings.now.frame window.now.longest_frame)) }
 {
     if window.share == 0 {
         put_never(writer, led, class)
@@ -203,7 +210,10 @@ fn put_windows<W: Write>(
     requires turned { turned.now ≡ turned_plan schedule.now }
     requires few { count ≤ CLASSES }
     ensures { (tell : Teller) → IsTeller tell →
-        Writes result (W.contents writer.old) (W.contents writer.new) (open_lines (class_line settings.now change.now (tell settings.now.rate (plan_asked change.now))) count 0) }
+        Writes result (W.contents writer.old) (W.contents writer.new)
+        (open_lines
+        (class_line settings.now change.now
+        (tell settings.now.rate (plan_asked change.now))) count 0) }
 {
     let open = longest_open(schedule);
     let closed = longest_closed(turned);
@@ -237,7 +247,10 @@ pub(crate) fn put_asked<W: Write>(
     requires accepted { plan_fault settings.now.rate (plan_asked change.now) ≡ None }
     requires few { count ≤ CLASSES }
     ensures { (tell : Teller) → IsTeller tell →
-        Writes result (W.contents writer.old) (W.contents writer.new) (asked_lines settings.now.windows (class_line settings.now change.now (tell settings.now.rate (plan_asked change.now))) count) }
+        Writes result (W.contents writer.old) (W.contents writer.new)
+        (asked_lines settings.now.windows
+        (class_line settings.now change.now
+        (tell settings.now.rate (plan_asked change.now))) count) }
 {
     if !settings.windows {
         return Ok(());

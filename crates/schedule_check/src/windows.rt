@@ -68,7 +68,8 @@ fn longer(one: Stay, other: Stay) -> Stay
 
 /// The classes that a mask opens and the mask before it closes.
 fn newly_open(mask: u8, before: u8) -> u8
-    ensures { (class : ℕ) → class < CLASSES → opens result class ≡ (opens mask class && not (opens before class)) }
+    ensures { (class : ℕ) → class < CLASSES →
+        opens result class ≡ (opens mask class && not (opens before class)) }
 {
     mask & !before
 }
@@ -88,7 +89,9 @@ fn lengthen_stay(schedule: &Schedule, i: usize, mask: u8, class: u8, longest: &m
 /// Of each class that a mask opens, the stay from the start of an entry on takes the place of one that is shorter.
 fn lengthen(schedule: &Schedule, i: usize, mask: u8, longest: &mut [Stay; CLASSES])
     requires { i < length schedule.now.entries }
-    ensures { (class : ℕ) → class < CLASSES → IsLengthened schedule.now i (opens mask class) class (slice_index_or longest.old class (Lasts 0)) (slice_index_or longest.new class (Lasts 0)) }
+    ensures { (class : ℕ) → class < CLASSES →
+        IsLengthened schedule.now i (opens mask class) class
+        (slice_index_or longest.old class (Lasts 0)) (slice_index_or longest.new class (Lasts 0)) }
 {
     for class in 0..CLASSES {
         lengthen_stay(schedule, i, mask, class as u8, &mut longest[class]);
@@ -98,7 +101,8 @@ fn lengthen(schedule: &Schedule, i: usize, mask: u8, longest: &mut [Stay; CLASSE
 /// The longest time that each class stays open. A stay is looked at only where it begins: where an entry opens a class
 /// that the entry before it closes.
 pub(crate) fn longest_open(schedule: &Schedule) -> [Stay; CLASSES]
-    ensures longest { (class : ℕ) → class < CLASSES → IsOpenStay (alone schedule.now) class (slice_index_or result class (Lasts 0)) }
+    ensures longest { (class : ℕ) → class < CLASSES →
+        IsOpenStay (alone schedule.now) class (slice_index_or result class (Lasts 0)) }
     ensures some { 0 < length schedule.now.entries }
 {
     let mut visits = Visits::zero();
@@ -136,7 +140,9 @@ fn open_part(mask: u8, class: u8, span: u64) -> u64
 /// To the share of each class its part of a span of time with this mask is added.
 fn add_parts(mask: u8, span: u64, shares: &mut [u64; CLASSES])
     requires { (class : ℕ) → class < CLASSES → slice_index_or shares.old class 0 + span < 2 ^ 64 }
-    ensures { (class : ℕ) → class < CLASSES → slice_index_or shares.new class 0 ≡ slice_index_or shares.old class 0 + (if opens mask class then span else 0) }
+    ensures { (class : ℕ) → class < CLASSES →
+        slice_index_or shares.new class 0
+        ≡ slice_index_or shares.old class 0 + (if opens mask class then span else 0) }
 {
     for class in 0..CLASSES {
         shares[class] += open_part(mask, class as u8, span);
@@ -145,7 +151,9 @@ fn add_parts(mask: u8, span: u64, shares: &mut [u64; CLASSES])
 
 /// For how many picoseconds of a cycle each class is open.
 pub(crate) fn shares_of(schedule: &Schedule) -> [u64; CLASSES]
-    ensures { (class : ℕ) → class < CLASSES → slice_index_or result class 0 ≡ open_total (alone schedule.now) class (in_ps schedule.now.cycle) }
+    ensures { (class : ℕ) → class < CLASSES →
+        slice_index_or result class 0
+        ≡ open_total (alone schedule.now) class (in_ps schedule.now.cycle) }
 {
     let count = schedule.len();
     let cycle = 1000 * schedule.cycle_ns();
@@ -163,7 +171,8 @@ pub(crate) fn shares_of(schedule: &Schedule) -> [u64; CLASSES]
 
 /// The longest frame that fits into the longest open time of a class.
 fn longest_within(rate: Rate, time: Stay) -> Longest
-    ensures { (mask : ℕ → ℕ) (class : ℕ) → IsOpenStay mask class time → IsLongestFrame rate mask class result }
+    ensures { (mask : ℕ → ℕ) (class : ℕ) → IsOpenStay mask class time →
+        IsLongestFrame rate mask class result }
 {
     let Stay::Lasts(lasts) = time else {
         return Longest::AnyFrame;
@@ -221,7 +230,8 @@ pub(crate) fn turned_schedule(
 
 /// The longest time that each class stays closed, by the schedule whose entries open what those of the plan close.
 pub(crate) fn longest_closed(other: &Schedule) -> [Stay; CLASSES]
-    ensures { (plan : Plan) → other.now ≡ turned_plan plan → (class : ℕ) → class < CLASSES → IsOpenStay (turned (alone plan)) class (slice_index_or result class (Lasts 0)) }
+    ensures { (plan : Plan) → other.now ≡ turned_plan plan → (class : ℕ) → class < CLASSES →
+        IsOpenStay (turned (alone plan)) class (slice_index_or result class (Lasts 0)) }
 {
     longest_open(other)
 }

@@ -126,11 +126,14 @@ impl<A: Allocator, W: PutLine> Observer<W> for AnswerLines<A> {
 
     ghost nothing = { λ s w. none_lined s.summary (W.contents w) };
 
-    ghost both = { λ xs ys s t u w v x. lined_both xs ys s.summary t.summary u.summary (W.contents w) (W.contents v) (W.contents x) };
+    ghost both = { λ xs ys s t u w v x. lined_both xs ys s.summary t.summary u.summary
+        (W.contents w) (W.contents v) (W.contents x) };
 
-    ghost cut_later = { λ xs ys s t u w v x. front_later xs ys s.summary t.summary (W.contents w) (W.contents v) (W.contents x) };
+    ghost cut_later = { λ xs ys s t u w v x. front_later xs ys s.summary t.summary (W.contents w)
+        (W.contents v) (W.contents x) };
 
-    ghost cut_here = { λ xs ys s t w v. front_here xs ys s.summary t.summary (W.contents w) (W.contents v) };
+    ghost cut_here = { λ xs ys s t w v. front_here xs ys s.summary t.summary (W.contents w)
+        (W.contents v) };
 
     ghost cut_sooner = { λ xs ys s t w v. front_sooner xs ys (W.contents w) (W.contents v) };
 }

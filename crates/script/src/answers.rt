@@ -41,7 +41,8 @@ fn put_frame<A: Allocator, W: PutLine, H: Watch>(
     writer: &mut W,
     watch: &mut H,
 ) -> Result<(), WriteFault>
-    ensures { IsAnswered (Asks (Events.Arrive frame.now)) result (W.contents writer.old) (W.contents writer.new) port.old port.new summary.old summary.new }
+    ensures { IsAnswered (Asks (Events.Arrive frame.now)) result (W.contents writer.old)
+        (W.contents writer.new) port.old port.new summary.old summary.new }
 {
     let now = port.now();
     let verdict = port.arrive(*frame);
@@ -61,7 +62,8 @@ fn put_each_start<A: Allocator, W: PutLine>(
 ) -> Result<(), WriteFault>
     requires later { port.old.port.now ≤ until }
     requires within { until ≤ greatest_moment }
-    ensures { IsAnswered (Asks (Events.Clock until)) result (W.contents writer.old) (W.contents writer.new) port.old port.new summary.old summary.new }
+    ensures { IsAnswered (Asks (Events.Clock until)) result (W.contents writer.old)
+        (W.contents writer.new) port.old port.new summary.old summary.new }
 {
     let now = port.now();
     while let Some(start) = port.step(until) {
@@ -89,7 +91,8 @@ fn put_install<A: Allocator, W: PutLine, H: Watch>(
     writer: &mut W,
     watch: &mut H,
 ) -> Result<(), WriteFault>
-    ensures { IsAnswered (Asks (Events.Install command.entry)) result (W.contents writer.old) (W.contents writer.new) port.old port.new summary.old summary.new }
+    ensures { IsAnswered (Asks (Events.Install command.entry)) result (W.contents writer.old)
+        (W.contents writer.new) port.old port.new summary.old summary.new }
 {
     // For the prover: a call on a port says what holds of every port.
     let _now = port.now();
@@ -107,7 +110,8 @@ fn put_clock<A: Allocator, W: PutLine>(
     moments: &mut NearNumbers,
     writer: &mut W,
 ) -> Result<(), WriteFault>
-    ensures { IsAnswered (Asks (Events.Clock until)) result (W.contents writer.old) (W.contents writer.new) port.old port.new summary.old summary.new }
+    ensures { IsAnswered (Asks (Events.Clock until)) result (W.contents writer.old)
+        (W.contents writer.new) port.old port.new summary.old summary.new }
 {
     if port.now() <= until && until <= MAX_MOMENT {
         put_each_start(port, summary, until, moments, writer)
@@ -122,7 +126,9 @@ fn put_query<A: Allocator, W: PutLine>(
     port: &mut RunningPort<A>,
     writer: &mut W,
 ) -> Result<(), WriteFault>
-    ensures { (seen : Option Observed) → IsAnswered (Asks Events.Query) result (W.contents writer.old) (W.contents writer.new) port.old port.new seen seen }
+    ensures { (seen : Option Observed) →
+        IsAnswered (Asks Events.Query) result (W.contents writer.old)
+        (W.contents writer.new) port.old port.new seen seen }
 {
     // For the prover: a call on a port says what holds of every port.
     let _now = port.now();
@@ -136,7 +142,9 @@ fn put_count<A: Allocator, W: PutLine>(
     class: u8,
     writer: &mut W,
 ) -> Result<(), WriteFault>
-    ensures { (seen : Option Observed) → IsAnswered (Asks (Events.Count class)) result (W.contents writer.old) (W.contents writer.new) port.now port.now seen seen }
+    ensures { (seen : Option Observed) →
+        IsAnswered (Asks (Events.Count class)) result (W.contents writer.old)
+        (W.contents writer.new) port.now port.now seen seen }
 {
     // For the prover: a call on a port says what holds of every port.
     let _now = port.now();
@@ -158,7 +166,8 @@ pub fn put_answers<A: Allocator, W: PutLine, H: Watch>(
     writer: &mut W,
     watch: &mut H,
 ) -> Result<(), WriteFault>
-    ensures { IsAnswered (Asks event.now) result (W.contents writer.old) (W.contents writer.new) port.old port.new summary.old summary.new }
+    ensures { IsAnswered (Asks event.now) result (W.contents writer.old)
+        (W.contents writer.new) port.old port.new summary.old summary.new }
 {
     match event {
         Event::Arrive(frame) => put_frame(port, summary, frame, writer, watch),
@@ -179,7 +188,8 @@ fn put_command<A: Allocator, W: PutLine, H: Watch>(
     writer: &mut W,
     watch: &mut H,
 ) -> Result<(), WriteFault>
-    ensures { IsAnswered (tc_request read.now) result (W.contents writer.old) (W.contents writer.new) port.old port.new summary.old summary.new }
+    ensures { IsAnswered (tc_request read.now) result (W.contents writer.old)
+        (W.contents writer.new) port.old port.new summary.old summary.new }
 {
     // For the prover: a call on a port says what holds of every port.
     let _now = port.now();
@@ -206,7 +216,8 @@ pub fn put_tc<A: Allocator, W: PutLine, H: Watch>(
     watch: &mut H,
 ) -> Result<(), WriteFault>
     ensures answered { (read : List (List ℕ) → Result Command TcFault) → IsReader read →
-        IsAnswered (tc_request (read (words_of line.now))) result (W.contents writer.old) (W.contents writer.new) port.old port.new summary.old summary.new }
+        IsAnswered (tc_request (read (words_of line.now))) result (W.contents writer.old)
+        (W.contents writer.new) port.old port.new summary.old summary.new }
     ensures sound { OnOk result (IsSoundPort port.new.port) }
     ensures few { HasFewVisits port.old.port port.old port.new }
 {
@@ -232,8 +243,10 @@ fn put_left_in<A: Allocator, W: Write, H: Watch>(
     watch: &mut H,
 ) -> Result<(), WriteFault>
     requires { class < CLASSES }
-    ensures text { Writes result (W.contents writer.old) (W.contents writer.new) (left_text class (length (queue_of port.now.port class))) }
-    ensures alerts { H.alerted (left_alert class (length (queue_of port.now.port class))) watch.old watch.new }
+    ensures text { Writes result (W.contents writer.old) (W.contents writer.new)
+        (left_text class (length (queue_of port.now.port class))) }
+    ensures alerts { H.alerted
+        (left_alert class (length (queue_of port.now.port class))) watch.old watch.new }
 {
     tell_used(port, class, watch);
     let waiting = port.counters(class).waiting;
@@ -251,7 +264,8 @@ pub(crate) fn put_all_left<A: Allocator, W: Write, H: Watch>(
     writer: &mut W,
     watch: &mut H,
 ) -> Result<(), WriteFault>
-    ensures text { Writes result (W.contents writer.old) (W.contents writer.new) (left_lines port.now.port) }
+    ensures text { Writes result (W.contents writer.old) (W.contents writer.new)
+        (left_lines port.now.port) }
     ensures alerts { Alerting H.alerted (alerts_from 8 0 port.now.port) result watch.old watch.new }
 {
     for class in 0..CLASSES as u8 {

@@ -110,7 +110,8 @@ pub fn put_line_fault<W: Write>(
     line: u32,
     fault: ScriptFault,
 ) -> Result<(), WriteFault>
-    ensures { Writes result (W.contents writer.old) (W.contents writer.new) (line_text begin.now line fault) }
+    ensures { Writes result (W.contents writer.old) (W.contents writer.new)
+        (line_text begin.now line fault) }
 {
     put_parts(
         writer,
@@ -184,7 +185,8 @@ pub fn put_value<W: Write>(writer: &mut W, value: BadValue) -> Result<(), WriteF
 /// Writes the text of a bad value. The exit status that goes with it is 2, also where that write fails.
 pub fn say_value<W: Write>(value: &BadValue, writer: &mut W) -> Ended
     ensures status { result.status ≡ 2 }
-    ensures told { IsTold result.told (W.contents writer.old) (W.contents writer.new) (value_text value.now) }
+    ensures told { IsTold result.told (W.contents writer.old) (W.contents writer.new)
+        (value_text value.now) }
 {
     let told = put_value(writer, *value).is_ok();
     Ended { status: 2, told }

@@ -21,7 +21,9 @@ pub trait Observer<W> {
 
     /// A frame comes, and waits in the queue of this class.
     fn frame_queued(&mut self, now: u128, frame: &Frame, class: u8, out: &mut W) -> Result<(), Halt>
-        ensures { Tells heard cut (Answered now (Came frame.now (Some class)) (Answers.Queued frame.now.id class) ∷ []) result self.old out.old self.new out.new };
+        ensures { Tells heard cut
+            (Answered now (Came frame.now (Some class))
+            (Answers.Queued frame.now.id class) ∷ []) result self.old out.old self.new out.new };
 
     /// A frame of this class, if it has one, comes and is dropped.
     fn frame_dropped(
@@ -32,11 +34,15 @@ pub trait Observer<W> {
         why: Dropped,
         out: &mut W,
     ) -> Result<(), Halt>
-        ensures { Tells heard cut (Answered now (Came frame.now class) (Answers.Dropped frame.now.id why) ∷ []) result self.old out.old self.new out.new };
+        ensures { Tells heard cut
+            (Answered now (Came frame.now class)
+            (Answers.Dropped frame.now.id why) ∷ []) result self.old out.old self.new out.new };
 
     /// A frame starts: of those that wait in its class the first.
     fn frame_started(&mut self, now: u128, start: &Start, out: &mut W) -> Result<(), Halt>
-        ensures { Tells heard cut (Answered now Otherwise (Answers.Start start.now) ∷ []) result self.old out.old self.new out.new };
+        ensures { Tells heard cut
+            (Answered now Otherwise
+            (Answers.Start start.now) ∷ []) result self.old out.old self.new out.new };
 
     /// A command is given, and accepted with its change moment, in picoseconds, or refused.
     fn command_given(
@@ -46,7 +52,9 @@ pub trait Observer<W> {
         answer: Result<u128, Refused>,
         out: &mut W,
     ) -> Result<(), Halt>
-        ensures { Tells heard cut (Answered now (Given command.now) (command_answer answer) ∷ []) result self.old out.old self.new out.new };
+        ensures { Tells heard cut
+            (Answered now (Given command.now)
+            (command_answer answer) ∷ []) result self.old out.old self.new out.new };
 
     /// A line begins with `tc`, and is no command.
     fn command_misread(&mut self, fault: TcFault, out: &mut W) -> Result<(), Halt>
@@ -54,11 +62,14 @@ pub trait Observer<W> {
 
     /// A clock event goes back, or past the greatest moment, and is refused.
     fn clock_refused(&mut self, now: u128, out: &mut W) -> Result<(), Halt>
-        ensures { Tells heard cut (Answered now Otherwise Answers.Backward ∷ []) result self.old out.old self.new out.new };
+        ensures { Tells heard cut
+            (Answered now Otherwise Answers.Backward ∷ []) result self.old out.old self.new out.new };
 
     /// A report is asked for.
     fn report_asked(&mut self, now: u128, report: &Report, out: &mut W) -> Result<(), Halt>
-        ensures { Tells heard cut (Answered now Otherwise (Answers.Report report.entry.now) ∷ []) result self.old out.old self.new out.new };
+        ensures { Tells heard cut
+            (Answered now Otherwise
+            (Answers.Report report.entry.now) ∷ []) result self.old out.old self.new out.new };
 
     /// The counters of this class are asked for.
     fn count_asked(
@@ -68,7 +79,9 @@ pub trait Observer<W> {
         counters: &Counters,
         out: &mut W,
     ) -> Result<(), Halt>
-        ensures { Tells heard cut (Answered now Otherwise (Answers.Counters class counters.now) ∷ []) result self.old out.old self.new out.new };
+        ensures { Tells heard cut
+            (Answered now Otherwise
+            (Answers.Counters class counters.now) ∷ []) result self.old out.old self.new out.new };
 
     /// More input is waited for.
     fn waits(&mut self, out: &mut W) -> Result<(), Halt>

@@ -71,7 +71,8 @@ pub fn end_with_value<B: Allocator, W: Write + Drop, E: Errors>(
     answers: BufWriter<W, B>,
     errors: &mut E,
 ) -> (Ended, W)
-    ensures { IsRefusal value result.0 (writer_contents W.contents answers) (W.contents result.1) (E.contents errors.old) (E.contents errors.new) }
+    ensures { IsRefusal value result.0 (writer_contents W.contents answers) (W.contents result.1)
+        (E.contents errors.old) (E.contents errors.new) }
 {
     let ended = say_value(&value, errors);
     errors.found(FaultKind::Value(value.kind()));
@@ -89,10 +90,15 @@ pub fn answer_script<A: Allocator, B: Allocator, R: Read, W: Write + Drop, E: Er
     errors: &mut E,
     watch: &mut H,
 ) -> (Ended, W)
-    ensures ending { IsEnding whole_script (settings_given greatest_moment (words_of_values values.entry))
-        (R.remaining reader.old) result.0 (writer_contents W.contents answers) (W.contents result.1) (E.contents errors.old) (E.contents errors.new) }
-    ensures watched { IsWatchedEnding H.alerted (settings_given greatest_moment (words_of_values values.entry)) (R.remaining reader.old) result.0 watch.old watch.new }
-    ensures unread { IfErr (settings_given greatest_moment (words_of_values values.entry)) (λ _. reader.new ≡ reader.old) }
+    ensures ending { IsEnding whole_script
+        (settings_given greatest_moment (words_of_values values.entry))
+        (R.remaining reader.old) result.0 (writer_contents W.contents answers) (W.contents result.1)
+        (E.contents errors.old) (E.contents errors.new) }
+    ensures watched { IsWatchedEnding H.alerted
+        (settings_given greatest_moment (words_of_values values.entry))
+        (R.remaining reader.old) result.0 watch.old watch.new }
+    ensures unread { IfErr (settings_given greatest_moment (words_of_values values.entry))
+        (λ _. reader.new ≡ reader.old) }
 {
     match settings_given(values, MAX_MOMENT) {
         Ok(settings) => {

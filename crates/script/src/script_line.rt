@@ -182,7 +182,8 @@ fn read_count(mut words: Words<'_>) -> Result<Event<'static>, ScriptFault>
 
 /// The command that a line is, or its first fault.
 pub fn read_tc(line: &[u8]) -> Result<Command, TcFault>
-    ensures { (read : List (List ℕ) → Result Command TcFault) → IsReader read → result ≡ read (words_of line.now) }
+    ensures { (read : List (List ℕ) → Result Command TcFault) → IsReader read →
+        result ≡ read (words_of line.now) }
 {
     one_reading();
     read_command(line)
@@ -190,7 +191,8 @@ pub fn read_tc(line: &[u8]) -> Result<Command, TcFault>
 
 /// Puts the command that a line is, or its first fault, in place of another answer.
 pub(crate) fn read_tc_into(line: &[u8], place: &mut CommandPlace)
-    ensures { (read : List (List ℕ) → Result Command TcFault) → IsReader read → place.new.answer ≡ read (words_of line.now) }
+    ensures { (read : List (List ℕ) → Result Command TcFault) → IsReader read →
+        place.new.answer ≡ read (words_of line.now) }
 {
     one_reading();
     read_command_into(line, place);

@@ -29,7 +29,8 @@ fn put_end_now<A: Allocator, W: PutLine, H: Watch>(
     writer: &mut W,
     watch: &mut H,
 ) -> Result<(), WriteFault>
-    ensures text { Writes result (W.contents writer.old) (W.contents writer.new) (end_lines port.now.port summary.now) }
+    ensures text { Writes result (W.contents writer.old) (W.contents writer.new)
+        (end_lines port.now.port summary.now) }
     ensures alerts { Alerting H.alerted (alerts_from 8 0 port.now.port) result watch.old watch.new }
 {
     let now = port.now();
@@ -45,8 +46,10 @@ fn end<A: Allocator, W: PutLine, H: Watch>(
     writer: &mut W,
     watch: &mut H,
 ) -> Result<(), Halt>
-    ensures alerts { Alerting H.alerted (end_alerts until port.old.port) result watch.old watch.new }
-    ensures text { PutsEnd result (W.contents writer.old) (W.contents writer.new) (ending_text until port.old.port answers.old.summary) }
+    ensures alerts { Alerting H.alerted
+        (end_alerts until port.old.port) result watch.old watch.new }
+    ensures text { PutsEnd result (W.contents writer.old) (W.contents writer.new)
+        (ending_text until port.old.port answers.old.summary) }
 {
     walk_on(port, answers, until, writer)?;
     halted(put_end_now(port, &answers.summary, writer, watch))
@@ -61,10 +64,14 @@ fn run_lines<A: Allocator, B: Allocator, R: Read + Drop, W: PutLine, H: Watch>(
     writer: &mut W,
     watch: &mut H,
 ) -> Result<(), RunFault>
-    ensures script { (read : List (List ℕ) → Result Command TcFault) → IsReader read → IfSome (script_left R.remaining lines.old) (λ script.
-        RunsOut result (W.contents writer.old) (W.contents writer.new) (outcome_from read until script port.old.port answers.old.summary)) }
-    ensures watched { (read : List (List ℕ) → Result Command TcFault) → IsReader read → IfSome (script_left R.remaining lines.old) (λ script.
-        Watched H.alerted (run_alerts until (reading_of read script) port.old.port) result watch.old watch.new) }
+    ensures script { (read : List (List ℕ) → Result Command TcFault) → IsReader read →
+        IfSome (script_left R.remaining lines.old)
+        (λ script. RunsOut result (W.contents writer.old) (W.contents writer.new)
+        (outcome_from read until script port.old.port answers.old.summary)) }
+    ensures watched { (read : List (List ℕ) → Result Command TcFault) → IsReader read →
+        IfSome (script_left R.remaining lines.old)
+        (λ script. Watched H.alerted
+        (run_alerts until (reading_of read script) port.old.port) result watch.old watch.new) }
 {
     settling();
     // For the prover: a call on a port says what holds of every port.
@@ -92,10 +99,14 @@ pub fn run_script<A: Allocator, R: Read + Drop, W: PutLine, H: Watch>(
     settings: Settings,
     watch: &mut H,
 ) -> Result<(), RunFault>
-    ensures script { (read : List (List ℕ) → Result Command TcFault) → IsReader read → IfSome (R.remaining reader) (λ input.
-        RunsOut result (W.contents writer.old) (W.contents writer.new) (outcome_of read settings input)) }
-    ensures watched { IsWatchedRun H.alerted settings (R.remaining reader) result watch.old watch.new }
-    ensures faithful { (read : List (List ℕ) → Result Command TcFault) (input : List ℕ) → IsFaithfulTo read settings input }
+    ensures script { (read : List (List ℕ) → Result Command TcFault) → IsReader read →
+        IfSome (R.remaining reader)
+        (λ input. RunsOut result (W.contents writer.old) (W.contents writer.new)
+        (outcome_of read settings input)) }
+    ensures watched { IsWatchedRun H.alerted settings
+        (R.remaining reader) result watch.old watch.new }
+    ensures faithful { (read : List (List ℕ) → Result Command TcFault) (input : List ℕ) →
+        IsFaithfulTo read settings input }
 {
     faithful();
     let rate = settings.rate();

@@ -33,8 +33,10 @@ fn take_frame<A: Allocator, W, O: Observer<W>, H: Watch>(
     out: &mut W,
     watch: &mut H,
 ) -> Result<(), Halt>
-    ensures taken { IsTaken O.heard O.cut (Asks (Events.Arrive frame.now)) result port.old port.new observer.old out.old observer.new out.new }
-    ensures alerts { H.alerted (alerts_of (told_to (Asks (Events.Arrive frame.now)) port.old.port)) watch.old watch.new }
+    ensures taken { IsTaken O.heard O.cut
+        (Asks (Events.Arrive frame.now)) result port.old port.new observer.old out.old observer.new out.new }
+    ensures alerts { H.alerted
+        (alerts_of (told_to (Asks (Events.Arrive frame.now)) port.old.port)) watch.old watch.new }
 {
     let now = port.now();
     match port.arrive(*frame) {
@@ -56,7 +58,8 @@ fn take_starts<A: Allocator, W, O: Observer<W>>(
 ) -> Result<(), Halt>
     requires later { port.old.port.now ≤ until }
     requires within { until ≤ greatest_moment }
-    ensures { IsTaken O.heard O.cut (Asks (Events.Clock until)) result port.old port.new observer.old out.old observer.new out.new }
+    ensures { IsTaken O.heard O.cut
+        (Asks (Events.Clock until)) result port.old port.new observer.old out.old observer.new out.new }
 {
     let now = port.now();
     while let Some(start) = port.step(until) {
@@ -73,7 +76,8 @@ fn take_clock<A: Allocator, W, O: Observer<W>>(
     until: u128,
     out: &mut W,
 ) -> Result<(), Halt>
-    ensures { IsTaken O.heard O.cut (Asks (Events.Clock until)) result port.old port.new observer.old out.old observer.new out.new }
+    ensures { IsTaken O.heard O.cut
+        (Asks (Events.Clock until)) result port.old port.new observer.old out.old observer.new out.new }
 {
     let now = port.now();
     if now <= until && until <= MAX_MOMENT {
@@ -106,7 +110,8 @@ fn take_query<A: Allocator, W, O: Observer<W>>(
     observer: &mut O,
     out: &mut W,
 ) -> Result<(), Halt>
-    ensures { IsTaken O.heard O.cut (Asks Events.Query) result port.old port.new observer.old out.old observer.new out.new }
+    ensures { IsTaken O.heard O.cut
+        (Asks Events.Query) result port.old port.new observer.old out.old observer.new out.new }
 {
     let now = port.now();
     observer.report_asked(now, &port.report(), out)
@@ -120,7 +125,8 @@ fn take_count<A: Allocator, W, O: Observer<W>>(
     class: u8,
     out: &mut W,
 ) -> Result<(), Halt>
-    ensures { IsTaken O.heard O.cut (Asks (Events.Count class)) result port.now port.now observer.old out.old observer.new out.new }
+    ensures { IsTaken O.heard O.cut
+        (Asks (Events.Count class)) result port.now port.now observer.old out.old observer.new out.new }
 {
     let now = port.now();
     if class >= CLASSES as u8 {
@@ -148,8 +154,11 @@ fn take_command<A: Allocator, W, O: Observer<W>, H: Watch>(
     out: &mut W,
     watch: &mut H,
 ) -> Result<(), Halt>
-    ensures taken { IsTaken O.heard O.cut (Asks (Events.Install command.entry)) result port.old port.new observer.old out.old observer.new out.new }
-    ensures alerts { H.alerted (alerts_of (told_to (Asks (Events.Install command.entry)) port.old.port)) watch.old watch.new }
+    ensures taken { IsTaken O.heard O.cut
+        (Asks (Events.Install command.entry)) result port.old port.new observer.old out.old observer.new out.new }
+    ensures alerts { H.alerted
+        (alerts_of
+        (told_to (Asks (Events.Install command.entry)) port.old.port)) watch.old watch.new }
 {
     let now = port.now();
     let answer = port.install(command);
@@ -167,8 +176,10 @@ pub fn take<A: Allocator, W, O: Observer<W>, H: Watch>(
     out: &mut W,
     watch: &mut H,
 ) -> Result<(), Halt>
-    ensures taken { IsTaken O.heard O.cut (Asks event.now) result port.old port.new observer.old out.old observer.new out.new }
-    ensures alerts { H.alerted (alerts_of (told_to (Asks event.now) port.old.port)) watch.old watch.new }
+    ensures taken { IsTaken O.heard O.cut
+        (Asks event.now) result port.old port.new observer.old out.old observer.new out.new }
+    ensures alerts { H.alerted
+        (alerts_of (told_to (Asks event.now) port.old.port)) watch.old watch.new }
 {
     match event {
         Event::Arrive(frame) => take_frame(port, observer, frame, out, watch),
@@ -189,8 +200,10 @@ fn take_read<A: Allocator, W, O: Observer<W>, H: Watch>(
     out: &mut W,
     watch: &mut H,
 ) -> Result<(), Halt>
-    ensures taken { IsTaken O.heard O.cut (tc_request read.now) result port.old port.new observer.old out.old observer.new out.new }
-    ensures alerts { H.alerted (alerts_of (told_to (tc_request read.now) port.old.port)) watch.old watch.new }
+    ensures taken { IsTaken O.heard O.cut
+        (tc_request read.now) result port.old port.new observer.old out.old observer.new out.new }
+    ensures alerts { H.alerted
+        (alerts_of (told_to (tc_request read.now) port.old.port)) watch.old watch.new }
 {
     // For the prover: a call on a port says what holds of every port.
     let _now = port.now();
@@ -216,8 +229,13 @@ pub fn take_tc<A: Allocator, W, O: Observer<W>, H: Watch>(
     watch: &mut H,
 ) -> Result<(), Halt>
     ensures taken { (read : List (List ℕ) → Result Command TcFault) → IsReader read →
-        IsTaken O.heard O.cut (tc_request (read (words_of line.now))) result port.old port.new observer.old out.old observer.new out.new }
-    ensures alerts { (read : List (List ℕ) → Result Command TcFault) → IsReader read → H.alerted (alerts_of (told_to (tc_request (read (words_of line.now))) port.old.port)) watch.old watch.new }
+        IsTaken O.heard O.cut
+        (tc_request
+        (read (words_of line.now))) result port.old port.new observer.old out.old observer.new out.new }
+    ensures alerts { (read : List (List ℕ) → Result Command TcFault) → IsReader read →
+        H.alerted
+        (alerts_of
+        (told_to (tc_request (read (words_of line.now))) port.old.port)) watch.old watch.new }
     ensures few { HasFewVisits port.old.port port.old port.new }
 {
     read_tc_into(line, place);
@@ -246,7 +264,9 @@ fn next_heard<A: Allocator, R: Read + Drop, W, O: Observer<W>>(
     observer: &mut O,
     out: &mut W,
 ) -> Result<bool, RunFault>
-    ensures step { StepsHeard O.heard O.cut (script_left R.remaining lines.old) result (current_number lines.new) (current_line lines.new) (script_left R.remaining lines.new) observer.old out.old observer.new out.new }
+    ensures step { StepsHeard O.heard O.cut (script_left R.remaining lines.old) result
+        (current_number lines.new) (current_line lines.new)
+        (script_left R.remaining lines.new) observer.old out.old observer.new out.new }
     ensures fewer { result ≡ Ok true → most_lines lines.new < most_lines lines.old }
 {
     if let Err(halt) = wait_for_line(lines, observer, out) {
@@ -269,12 +289,20 @@ pub fn walk<A: Allocator, B: Allocator, R: Read + Drop, W, O: Observer<W>, H: Wa
     out: &mut W,
     watch: &mut H,
 ) -> Result<(), RunFault>
-    ensures told { (read : List (List ℕ) → Result Command TcFault) → IsReader read → IfSome (script_left R.remaining lines.old) (λ script.
-        Walked O.heard O.cut (reading_of read script) port.old.port port.new.port result observer.old out.old observer.new out.new) }
-    ensures alerts { (read : List (List ℕ) → Result Command TcFault) → IsReader read → IfSome (script_left R.remaining lines.old) (λ script.
-        Watched H.alerted (alerts_of (told_of (reading_of read script).requests port.old.port)) result watch.old watch.new) }
-    ensures few { (read : List (List ℕ) → Result Command TcFault) → IsReader read → IfSome (script_left R.remaining lines.old) (λ script.
-        HasFewVisits (port_after (events_of (reading_of read script).requests) port.old.port) port.old port.new) }
+    ensures told { (read : List (List ℕ) → Result Command TcFault) → IsReader read →
+        IfSome (script_left R.remaining lines.old)
+        (λ script. Walked O.heard O.cut
+        (reading_of read script) port.old.port port.new.port result observer.old out.old observer.new out.new) }
+    ensures alerts { (read : List (List ℕ) → Result Command TcFault) → IsReader read →
+        IfSome (script_left R.remaining lines.old)
+        (λ script. Watched H.alerted
+        (alerts_of
+        (told_of (reading_of read script).requests port.old.port)) result watch.old watch.new) }
+    ensures few { (read : List (List ℕ) → Result Command TcFault) → IsReader read →
+        IfSome (script_left R.remaining lines.old)
+        (λ script. HasFewVisits
+        (port_after
+        (events_of (reading_of read script).requests) port.old.port) port.old port.new) }
 {
     settling();
     // For the prover: a call on a port says what holds of every port.

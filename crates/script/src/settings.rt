@@ -29,11 +29,23 @@ impl Model for Settings {
 
     ghost Value = { Setup };
 
-    ghost view = { λ s. record { rate = s.rate; mtu = s.mtu; room = s.room; until = s.until; summary = s.summary } };
+    ghost view = { λ s. record {
+      rate = s.rate;
+      mtu = s.mtu;
+      room = s.room;
+      until = s.until;
+      summary = s.summary;
+    } };
 
     ghost invariant = { λ s. AreGood s.mtu s.room s.until };
 
-    ghost inverse = { λ v. record { rate = v.rate; mtu = v.mtu; room = v.room; until = v.until; summary = v.summary } };
+    ghost inverse = { λ v. record {
+      rate = v.rate;
+      mtu = v.mtu;
+      room = v.room;
+      until = v.until;
+      summary = v.summary;
+    } };
 }
 
 /// The first value that is no decimal number or out of its limits, by the option that gives it.

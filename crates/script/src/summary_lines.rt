@@ -20,7 +20,8 @@ fn put_class<A: Allocator, W: Write>(
     writer: &mut W,
 ) -> Result<(), WriteFault>
     requires { class < CLASSES }
-    ensures { Writes result (W.contents writer.old) (W.contents writer.new) (class_text class (counters_of port.now.port class) (class_at summary.now.classes class)) }
+    ensures { Writes result (W.contents writer.old) (W.contents writer.new)
+        (class_text class (counters_of port.now.port class) (class_at summary.now.classes class)) }
 {
     let counters = port.counters(class);
     summary.put_class(class, &counters, writer)
@@ -34,7 +35,8 @@ fn put_summary<A: Allocator, W: Write>(
     writer: &mut W,
 ) -> Result<(), WriteFault>
     requires { moment ≤ greatest_moment }
-    ensures { Writes result (W.contents writer.old) (W.contents writer.new) (summary_lines (record port.now.port { now = moment }) summary.now) }
+    ensures { Writes result (W.contents writer.old) (W.contents writer.new)
+        (summary_lines (record port.now.port { now = moment }) summary.now) }
 {
     for class in 0..CLASSES as u8 {
         put_class(port, summary, class, writer)?;
@@ -52,7 +54,8 @@ pub fn put_end<A: Allocator, W: Write, H: Watch>(
     watch: &mut H,
 ) -> Result<(), WriteFault>
     requires { moment ≤ greatest_moment }
-    ensures text { Writes result (W.contents writer.old) (W.contents writer.new) (end_lines (record port.now.port { now = moment }) summary.now) }
+    ensures text { Writes result (W.contents writer.old) (W.contents writer.new)
+        (end_lines (record port.now.port { now = moment }) summary.now) }
     ensures alerts { Alerting H.alerted (alerts_from 8 0 port.now.port) result watch.old watch.new }
 {
     match summary {

@@ -88,8 +88,10 @@ impl SharedClass<'_, '_, '_> {
         requires frames { (0 < frames) × (frames < 2 ^ 64) }
         requires behind { behind < 2 ^ 64 }
         requires time { time < 2 ^ 100 }
-        ensures none { result ≡ 0 → own_slots self.now * (frames - 1) + above_of self.now time ≤ behind }
-        ensures some { 0 < result → behind + result ≤ own_slots self.now * (frames - 1) + above_of self.now time }
+        ensures none { result ≡ 0 →
+            own_slots self.now * (frames - 1) + above_of self.now time ≤ behind }
+        ensures some { 0 < result →
+            behind + result ≤ own_slots self.now * (frames - 1) + above_of self.now time }
         ensures few { result < 2 ^ 126 }
     {
         let own = self.slots_of(self.class) * (frames - 1);

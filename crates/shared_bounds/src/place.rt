@@ -50,7 +50,8 @@ impl SharedClass<'_, '_, '_> {
     /// A moment from which the gate stays open for the longest frame; none: no window takes it.
     pub fn taken_at(&self) -> Option<u128>
         requires place { IsPlace self.now }
-        ensures { MatchOption result (IsStuck self.now) (λ t. may_of self.now t (own_of self.now) ≡ true) }
+        ensures { MatchOption result (IsStuck self.now)
+            (λ t. may_of self.now t (own_of self.now) ≡ true) }
     {
         fit(
             self.schedule,
@@ -117,7 +118,9 @@ impl SharedClass<'_, '_, '_> {
         requires place { IsPlace self.now }
         requires class { class < CLASSES }
         requires at { at ≤ 2 ^ 72 + 2 ^ 64 }
-        ensures { result ≡ blocked_by self.now.schedule.now self.now.class (needs self.now.traffic.now) at class }
+        ensures { result
+            ≡ blocked_by self.now.schedule.now self.now.class
+            (needs self.now.traffic.now) at class }
     {
         if class == self.class || !self.was_open(class, at) {
             return 0;
@@ -161,7 +164,8 @@ impl SharedClass<'_, '_, '_> {
     pub fn next_opening(&self, from: u128) -> Option<u128>
         requires place { IsPlace self.now }
         requires from { from ≤ 2 ^ 72 + 2 ^ 63 }
-        ensures opening { MatchOption result (NoneOpens self.now from) (IsNextOpening (opening_of self.now) from) }
+        ensures opening { MatchOption result (NoneOpens self.now from)
+            (IsNextOpening (opening_of self.now) from) }
         ensures near { IfSome result (λ u. u ≤ from + in_ps self.now.schedule.now.cycle) }
     {
         let mut visits = Visits::zero();

@@ -21,8 +21,10 @@ fn are_open(schedule: &Schedule, position: &Position, class: u8, other: u8, at: 
     requires at { at ≤ greatest_moment }
     requires class { class < CLASSES }
     requires other { other < CLASSES }
-    ensures yes { IsTrue result → (may_by schedule.now class at 1 ≡ true) × (may_by schedule.now other at 1 ≡ true) }
-    ensures no { result ≡ false → may_by schedule.now class at 1 ≡ true → may_by schedule.now other at 1 ≡ false }
+    ensures yes { IsTrue result →
+        (may_by schedule.now class at 1 ≡ true) × (may_by schedule.now other at 1 ≡ true) }
+    ensures no { result ≡ false → may_by schedule.now class at 1 ≡ true →
+        may_by schedule.now other at 1 ≡ false }
 {
     let own = Need {
         class,

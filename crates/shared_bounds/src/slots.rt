@@ -79,8 +79,10 @@ impl SharedClass<'_, '_, '_> {
         requires place { IsPlace self.now }
         requires at { at ≤ 2 ^ 72 + 2 ^ 64 }
         ensures most { result ≤ most }
-        ensures opened { 0 < result → may_of self.now at (result * self.now.pitch + own_of self.now) ≡ true }
-        ensures none { result ≡ 0 → 0 < most → may_of self.now at (self.now.pitch + own_of self.now) ≡ false }
+        ensures opened { 0 < result →
+            may_of self.now at (result * self.now.pitch + own_of self.now) ≡ true }
+        ensures none { result ≡ 0 → 0 < most →
+            may_of self.now at (self.now.pitch + own_of self.now) ≡ false }
         ensures near { result * self.now.pitch ≤ 2 ^ 61 }
     {
         let need = self.need_of(self.class);

@@ -289,7 +289,8 @@ where
     requires traffic { All IsTraffic traffic.now }
     requires need { 0 < needs traffic.now class }
     requires some { 0 < arrivals_of traffic.now class 0 }
-    ensures least { IfOk result (λ b. AreLeastOf schedule.now class traffic.now (limit + 1) b.wait b.most) }
+    ensures least { IfOk result
+        (λ b. AreLeastOf schedule.now class traffic.now (limit + 1) b.wait b.most) }
     ensures why { IfErr result (IsUnbound schedule.now class traffic.now (limit + 1)) }
 {
     let _entries = schedule.len();

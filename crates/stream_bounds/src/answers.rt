@@ -45,9 +45,12 @@ fn class_answer(
     requires plan { schedule.now ≡ plan_asked change.now }
     requires periodic { All IsPeriodic beside.table.now }
     requires counted { All IsCounted beside.above.now }
-    ensures answer { IfOk result (λ j. IsClassAnswer settings.now change.now beside.entry.table.now beside.entry.above.now class j.answer) }
-    ensures standing { IfOk result (λ j. j.standing ≡
-        standing_of settings.now change.now class (streams_of settings.now change.now class beside.entry.table.now) j.answer.verdict) }
+    ensures answer { IfOk result
+        (λ j. IsClassAnswer settings.now change.now beside.entry.table.now beside.entry.above.now class j.answer) }
+    ensures standing { IfOk result
+        (λ j. j.standing
+        ≡ standing_of settings.now change.now class
+        (streams_of settings.now change.now class beside.entry.table.now) j.answer.verdict) }
     ensures counted { IfOk result (λ j. IsCounted j.standing) }
     ensures memory { IfErr result (λ fault. fault ≡ Faults.Memory) }
 {

@@ -161,7 +161,8 @@ pub fn end_with_bounds_value<B: Allocator, W: Write + Drop, E: Errors>(
     answers: BufWriter<W, B>,
     errors: &mut E,
 ) -> (Ended, W)
-    ensures { IsBoundsRefusal value result.0 (writer_contents W.contents answers) (W.contents result.1) (E.contents errors.old) (E.contents errors.new) }
+    ensures { IsBoundsRefusal value result.0 (writer_contents W.contents answers)
+        (W.contents result.1) (E.contents errors.old) (E.contents errors.new) }
 {
     let ended = say_bounds_value(&value, errors);
     errors.found(FaultKind::Value(value.kind()));
@@ -181,7 +182,9 @@ pub fn answer_bounds<B: Allocator, R: Read, S: Read + Drop, W: Write + Drop, E: 
     errors: &mut E,
     watch: &mut H,
 ) -> (Ended, W)
-    ensures { IsBoundsEnding settings (S.remaining table) (R.remaining reader.old) result.0 (writer_contents W.contents answers) (W.contents result.1) (E.contents errors.old) (E.contents errors.new) }
+    ensures { IsBoundsEnding settings (S.remaining table) (R.remaining reader.old) result.0
+        (writer_contents W.contents answers) (W.contents result.1) (E.contents errors.old)
+        (E.contents errors.new) }
 {
     let run = bounds(alloc, table, reader, &mut answers, settings, watch);
     end_run(run, answers, errors)

@@ -38,7 +38,8 @@ use traffic::Stream;
 
 /// What a call that writes answers, as what a call answers that may fail otherwise too.
 fn told(written: Result<Answered, WriteFault>) -> Result<Answered, BoundsFault>
-    ensures { MatchResult written (λ answered. result ≡ Ok answered) (λ _. result ≡ Err Faults.Write) }
+    ensures { MatchResult written (λ answered. result ≡ Ok answered)
+        (λ _. result ≡ Err Faults.Write) }
 {
     match written {
         Ok(answered) => Ok(answered),
@@ -110,7 +111,8 @@ fn put_schedule<W: Write, H: Watch>(
 /// Why a line changes nothing, in the words of an answer.
 fn put_refusal<W: Write>(writer: &mut W, line: u32, why: Refused) -> Result<Answered, BoundsFault>
     ensures { (settings : BoundsSettings) (change : Change) (streams : List Stream) →
-        TellsChange result line (Some why) settings change streams (W.contents writer.old) (W.contents writer.new) }
+        TellsChange result line (Some why) settings change streams (W.contents writer.old)
+        (W.contents writer.new) }
 {
     match put_refused(writer, why) {
         Ok(()) => Ok(Answered {
@@ -133,7 +135,8 @@ fn put_fitting<W: Write, H: Watch>(
 ) -> Result<Answered, BoundsFault>
     requires periodic { All IsPeriodic streams.now }
     requires fitting { early_refusal (port_before settings.now) change.now ≡ None }
-    ensures { TellsChange result line (refusal_of settings.now change.now) settings.now change.now streams.now
+    ensures { TellsChange result line
+        (refusal_of settings.now change.now) settings.now change.now streams.now
         (W.contents writer.old) (W.contents writer.new) }
 {
     let schedule = Schedule::new(
@@ -162,7 +165,8 @@ fn put_change<W: Write, H: Watch>(
     watch: &mut H,
 ) -> Result<Answered, BoundsFault>
     requires { All IsPeriodic streams.now }
-    ensures { TellsChange result line (refusal_of settings.now change.now) settings.now change.now streams.now
+    ensures { TellsChange result line
+        (refusal_of settings.now change.now) settings.now change.now streams.now
         (W.contents writer.old) (W.contents writer.new) }
 {
     match early_refusal(settings.port.mtu(), settings.map, change) {
@@ -182,7 +186,8 @@ fn put_command<W: Write, H: Watch>(
     watch: &mut H,
 ) -> Result<Answered, BoundsFault>
     requires { All IsPeriodic streams.now }
-    ensures { TellsLine result line settings.now streams.now read (W.contents writer.old) (W.contents writer.new) }
+    ensures { TellsLine result line settings.now streams.now read (W.contents writer.old)
+        (W.contents writer.new) }
 {
     match read {
         Ok(Command::Replace(change)) => {

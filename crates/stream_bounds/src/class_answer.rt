@@ -166,7 +166,8 @@ fn exact_answer(
     requires class { class < CLASSES }
     requires periodic { All IsPeriodic streams.now }
     requires some { 0 < length streams.now }
-    ensures answer { IfOk result (λ a. a ≡ exact_answer settings.now schedule.now streams.now class) }
+    ensures answer { IfOk result
+        (λ a. a ≡ exact_answer settings.now schedule.now streams.now class) }
     ensures memory { IfErr result (λ fault. fault ≡ Faults.Memory) }
 {
     let flows = flows_of(alloc, settings.port.rate(), streams)?;
@@ -367,8 +368,9 @@ pub fn kept_answer(
     requires plan { schedule.now ≡ plan_asked change.now }
     requires periodic { All IsPeriodic streams.now }
     requires some { 0 < length streams.now }
-    ensures answer { IfOk result (λ a.
-        IsApartAnswer (has_any streams.now) (has_inexact streams.now) settings.now change.now streams.now class a) }
+    ensures answer { IfOk result
+        (λ a. IsApartAnswer (has_any streams.now)
+        (has_inexact streams.now) settings.now change.now streams.now class a) }
     ensures memory { IfErr result (λ fault. fault ≡ Faults.Memory) }
 {
     if has_any(streams) {
@@ -395,8 +397,8 @@ pub fn own_answer(
     requires periodic { All IsPeriodic streams.now }
     requires table { All IsPeriodic beside.table.now }
     requires counted { All IsCounted beside.above.now }
-    ensures answer { IfOk result (λ a.
-        IsOwnAnswer settings.now change.now beside.entry.table.now beside.entry.above.now streams.now class a) }
+    ensures answer { IfOk result
+        (λ a. IsOwnAnswer settings.now change.now beside.entry.table.now beside.entry.above.now streams.now class a) }
     ensures memory { IfErr result (λ fault. fault ≡ Faults.Memory) }
 {
     if streams.len() == 0 {

@@ -25,7 +25,8 @@ fn put_head<W: Write>(writer: &mut W, class: u8) -> Result<(), WriteFault>
 
 /// Writes the line of a class about which one word is said.
 fn put_word<W: Write>(writer: &mut W, class: u8, word: &[u8]) -> Result<(), WriteFault>
-    ensures { Writes result (W.contents writer.old) (W.contents writer.new) (word_line class word.now) }
+    ensures { Writes result (W.contents writer.old) (W.contents writer.new)
+        (word_line class word.now) }
 {
     put_parts(
         writer,
@@ -40,7 +41,8 @@ fn put_word<W: Write>(writer: &mut W, class: u8, word: &[u8]) -> Result<(), Writ
 
 /// Writes a frame, behind the word that says what it is the first of.
 fn put_place<W: Write>(writer: &mut W, word: &[u8], place: Place) -> Result<(), WriteFault>
-    ensures { Writes result (W.contents writer.old) (W.contents writer.new) (place_text word.now place) }
+    ensures { Writes result (W.contents writer.old) (W.contents writer.new)
+        (place_text word.now place) }
 {
     put_parts(
         writer,
@@ -58,7 +60,8 @@ fn put_place<W: Write>(writer: &mut W, word: &[u8], place: Place) -> Result<(), 
 
 /// Writes the first frame that finds no room, to the end of the line.
 fn put_first_full<W: Write>(writer: &mut W, place: Place) -> Result<(), WriteFault>
-    ensures { Writes result (W.contents writer.old) (W.contents writer.new) (full_end (Some place)) }
+    ensures { Writes result (W.contents writer.old) (W.contents writer.new)
+        (full_end (Some place)) }
 {
     put_place(writer, b" full", place)?;
     put(writer, b"\n")
@@ -76,7 +79,8 @@ fn put_full<W: Write>(writer: &mut W, full: Option<Place>) -> Result<(), WriteFa
 
 /// Writes the line of a class whose queue is full at last.
 fn put_full_class<W: Write>(writer: &mut W, class: u8, first: Place) -> Result<(), WriteFault>
-    ensures { Writes result (W.contents writer.old) (W.contents writer.new) (full_line class first) }
+    ensures { Writes result (W.contents writer.old) (W.contents writer.new)
+        (full_line class first) }
 {
     put_head(writer, class)?;
     put_first_full(writer, first)
@@ -89,7 +93,8 @@ fn put_stuck<W: Write>(
     never: Place,
     full: Option<Place>,
 ) -> Result<(), WriteFault>
-    ensures { Writes result (W.contents writer.old) (W.contents writer.new) (stuck_line class never full) }
+    ensures { Writes result (W.contents writer.old) (W.contents writer.new)
+        (stuck_line class never full) }
 {
     put_head(writer, class)?;
     put_place(writer, b" stuck", never)?;
@@ -105,7 +110,8 @@ fn put_bounded<W: Write>(
     frames: u64,
     every: u128,
 ) -> Result<(), WriteFault>
-    ensures { Writes result (W.contents writer.old) (W.contents writer.new) (bounded_line class room most frames every) }
+    ensures { Writes result (W.contents writer.old) (W.contents writer.new)
+        (bounded_line class room most frames every) }
 {
     put_parts(
         writer,
@@ -127,7 +133,8 @@ fn put_bounded<W: Write>(
 
 /// Writes the line of a class whose frames wait within bounds, whenever they come.
 fn put_within<W: Write>(writer: &mut W, class: u8, room: u32, most: u64) -> Result<(), WriteFault>
-    ensures { Writes result (W.contents writer.old) (W.contents writer.new) (within_line class room most) }
+    ensures { Writes result (W.contents writer.old) (W.contents writer.new)
+        (within_line class room most) }
 {
     put_parts(
         writer,
@@ -156,7 +163,8 @@ fn put_flag<W: Write>(writer: &mut W, is: bool, class: u8) -> Result<(), WriteFa
 
 /// Writes those of the classes that are meant, in rising order.
 fn put_flags<W: Write>(writer: &mut W, flags: &[bool; CLASSES]) -> Result<(), WriteFault>
-    ensures { Writes result (W.contents writer.old) (W.contents writer.new) (flag_texts flags.now CLASSES 0) }
+    ensures { Writes result (W.contents writer.old) (W.contents writer.new)
+        (flag_texts flags.now CLASSES 0) }
 {
     for class in 0..CLASSES as u8 {
         put_flag(writer, flags[class as usize], class)?;
@@ -170,7 +178,8 @@ pub fn put_flagged<W: Write>(
     words: &[u8],
     flags: &[bool; CLASSES],
 ) -> Result<(), WriteFault>
-    ensures { Writes result (W.contents writer.old) (W.contents writer.new) (flagged_line words.now flags.now) }
+    ensures { Writes result (W.contents writer.old) (W.contents writer.new)
+        (flagged_line words.now flags.now) }
 {
     put(writer, words)?;
     put_flags(writer, flags)?;
@@ -179,7 +188,8 @@ pub fn put_flagged<W: Write>(
 
 /// Writes the line of a class that is open to others above it.
 fn put_open<W: Write>(writer: &mut W, class: u8, to: &[bool; CLASSES]) -> Result<(), WriteFault>
-    ensures { Writes result (W.contents writer.old) (W.contents writer.new) (open_line class to.now) }
+    ensures { Writes result (W.contents writer.old) (W.contents writer.new)
+        (open_line class to.now) }
 {
     put_head(writer, class)?;
     put_flagged(writer, b" open to", to)
@@ -187,7 +197,8 @@ fn put_open<W: Write>(writer: &mut W, class: u8, to: &[bool; CLASSES]) -> Result
 
 /// Writes the line of a class behind one that has no bounds.
 fn put_behind<W: Write>(writer: &mut W, class: u8, other: u8) -> Result<(), WriteFault>
-    ensures { Writes result (W.contents writer.old) (W.contents writer.new) (behind_line class other) }
+    ensures { Writes result (W.contents writer.old) (W.contents writer.new)
+        (behind_line class other) }
 {
     put_parts(
         writer,
@@ -208,7 +219,8 @@ pub fn put_class<W: Write>(
     room: u32,
     verdict: Verdict,
 ) -> Result<(), WriteFault>
-    ensures { Writes result (W.contents writer.old) (W.contents writer.new) (class_line class room verdict) }
+    ensures { Writes result (W.contents writer.old) (W.contents writer.new)
+        (class_line class room verdict) }
 {
     match verdict {
         Verdict::Idle => put_parts(writer, &[]),
@@ -235,7 +247,8 @@ pub fn put_class<W: Write>(
 
 /// Writes the lines of all classes that have streams, in rising order.
 pub fn put_classes<W: Write>(writer: &mut W, room: u32, answers: &Answers) -> Result<(), WriteFault>
-    ensures { Writes result (W.contents writer.old) (W.contents writer.new) (class_lines room answers.now CLASSES 0) }
+    ensures { Writes result (W.contents writer.old) (W.contents writer.new)
+        (class_lines room answers.now CLASSES 0) }
 {
     for class in 0..CLASSES as u8 {
         put_class(writer, class, room, answers.verdict(class))?;

@@ -147,7 +147,8 @@ pub fn streams_of<A: Allocator>(
     class: u8,
 ) -> Result<Vec<Stream, A>, BoundsFault>
     requires { All IsPeriodic streams.now }
-    ensures streams { IfOk result (λ own. own.items ≡ streams_of settings.now change.now class streams.now) }
+    ensures streams { IfOk result
+        (λ own. own.items ≡ streams_of settings.now change.now class streams.now) }
     ensures periodic { IfOk result (λ own. All IsPeriodic own.items) }
     ensures memory { IfErr result (λ fault. fault ≡ Faults.Memory) }
 {
@@ -233,7 +234,8 @@ pub fn talkers_of<A: Allocator>(
     streams: &[Stream],
 ) -> Result<Vec<Talker, A>, BoundsFault>
     requires { All IsPeriodic streams.now }
-    ensures talkers { IfOk result (λ talkers. talkers.items ≡ map (talker_of rate sdu) streams.now) }
+    ensures talkers { IfOk result
+        (λ talkers. talkers.items ≡ map (talker_of rate sdu) streams.now) }
     ensures fit { IfOk result (λ talkers. All IsTalker talkers.items) }
     ensures short { IfOk result (λ talkers. All IsShort talkers.items) }
     ensures memory { IfErr result (λ fault. fault ≡ Faults.Memory) }

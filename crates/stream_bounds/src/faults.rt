@@ -109,7 +109,8 @@ fn put_found<'a, W: Write>(
     number: u64,
     found: &'a [u8],
 ) -> Result<(), WriteFault>
-    ensures { Writes result (W.contents writer.old) (W.contents writer.new) (finding_text what.now number found.now) }
+    ensures { Writes result (W.contents writer.old) (W.contents writer.new)
+        (finding_text what.now number found.now) }
 {
     put_parts(
         writer,
@@ -159,7 +160,8 @@ fn put_schedules<W: Write>(
     line: u32,
     fault: ScriptFault,
 ) -> Result<(), WriteFault>
-    ensures { Writes result (W.contents writer.old) (W.contents writer.new) (schedules_text found line fault) }
+    ensures { Writes result (W.contents writer.old) (W.contents writer.new)
+        (schedules_text found line fault) }
 {
     put_first(writer, found)?;
     put_line_fault(writer, b"taprio_port: script line ", line, fault)

@@ -57,7 +57,8 @@ fn put_silent<W: Write>(
     change: &Change,
     streams: &[Stream],
 ) -> Result<(), WriteFault>
-    ensures { Writes result (W.contents writer.old) (W.contents writer.new) (silent_line settings.now change.now streams.now) }
+    ensures { Writes result (W.contents writer.old) (W.contents writer.new)
+        (silent_line settings.now change.now streams.now) }
 {
     if is_any(&settings.silent) {
         put_flagged(
@@ -79,7 +80,8 @@ pub fn put_premises<W: Write>(
     streams: &[Stream],
 ) -> Result<(), WriteFault>
     requires plan { schedule.now ≡ plan_asked change.now }
-    ensures { Writes result (W.contents writer.old) (W.contents writer.new) (premise_lines settings.now change.now streams.now) }
+    ensures { Writes result (W.contents writer.old) (W.contents writer.new)
+        (premise_lines settings.now change.now streams.now) }
 {
     let count = class_count(map_after(settings.map, change.map));
     put_apart(writer, &classes_apart(schedule, count))?;

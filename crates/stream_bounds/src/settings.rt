@@ -62,7 +62,8 @@ impl BoundsValue {
 /// Writes the text of a bad value. The exit status that goes with it is 2, also where that write fails.
 pub fn say_bounds_value<W: Write>(value: &BoundsValue, writer: &mut W) -> Ended
     ensures status { result.status ≡ 2 }
-    ensures told { IsTold result.told (W.contents writer.old) (W.contents writer.new) (bounds_value_text value.now) }
+    ensures told { IsTold result.told (W.contents writer.old) (W.contents writer.new)
+        (bounds_value_text value.now) }
 {
     let told = match *value {
         BoundsValue::Port(value) => put_value(writer, value).is_ok(),

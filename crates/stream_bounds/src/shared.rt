@@ -184,7 +184,8 @@ fn all_talkers(
 ) -> Result<[Vec<Talker, Global>; CLASSES], BoundsFault>
     requires table { All IsPeriodic table.now }
     requires periodic { All IsPeriodic streams.now }
-    ensures talkers { IfOk result (AreTalkersFrom settings.now change.now table.now streams.now class 0) }
+    ensures talkers { IfOk result
+        (AreTalkersFrom settings.now change.now table.now streams.now class 0) }
     ensures fit { IfOk result (All (λ talkers. All IsTalker talkers.items)) }
     ensures short { IfOk result (All (λ talkers. All IsShort talkers.items)) }
     ensures memory { IfErr result (λ fault. fault ≡ Faults.Memory) }
@@ -257,7 +258,8 @@ fn shared_within(
     streams: &[Stream],
     bounds: Bounds,
 ) -> Result<ClassAnswer, BoundsFault>
-    ensures answer { IfOk result (λ a. a ≡ shared_within (nat_le bounds.most room) bounds streams.now) }
+    ensures answer { IfOk result
+        (λ a. a ≡ shared_within (nat_le bounds.most room) bounds streams.now) }
     ensures memory { IfErr result (λ fault. fault ≡ Faults.Memory) }
 {
     let most = bounds.most as u64;
@@ -365,8 +367,8 @@ fn bounded_answer(
     requires counted { All IsCounted beside.above.now }
     requires periodic { All IsPeriodic streams.now }
     requires some { 0 < length streams.now }
-    ensures answer { IfOk result (λ a.
-        IsBoundedAnswer settings.now change.now beside.entry.table.now beside.entry.above.now streams.now class a) }
+    ensures answer { IfOk result
+        (λ a. IsBoundedAnswer settings.now change.now beside.entry.table.now beside.entry.above.now streams.now class a) }
     ensures memory { IfErr result (λ fault. fault ≡ Faults.Memory) }
 {
     let talkers = all_talkers(alloc, settings, change, beside.table, streams, class)?;
@@ -392,8 +394,8 @@ pub fn sharing_answer(
     requires counted { All IsCounted beside.above.now }
     requires periodic { All IsPeriodic streams.now }
     requires some { 0 < length streams.now }
-    ensures answer { IfOk result (λ a.
-        IsSharedAnswer settings.now change.now beside.entry.table.now beside.entry.above.now streams.now class a) }
+    ensures answer { IfOk result
+        (λ a. IsSharedAnswer settings.now change.now beside.entry.table.now beside.entry.above.now streams.now class a) }
     ensures memory { IfErr result (λ fault. fault ≡ Faults.Memory) }
 {
     let open = open_above(schedule, beside.above, class);

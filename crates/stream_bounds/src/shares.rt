@@ -119,8 +119,8 @@ fn wait_alone(
     requires periodic { IsPeriodic stream.now }
     requires table { All IsPeriodic beside.table.now }
     requires counted { All IsCounted beside.above.now }
-    ensures wait { IfOk result (λ wait.
-        IsWaitAlone settings.now change.now beside.entry.table.now beside.entry.above.now class stream.now wait) }
+    ensures wait { IfOk result
+        (λ wait. IsWaitAlone settings.now change.now beside.entry.table.now beside.entry.above.now class stream.now wait) }
     ensures memory { IfErr result (λ fault. fault ≡ Faults.Memory) }
 {
     let own = [*stream];
@@ -171,8 +171,8 @@ fn divided(
     requires periodic { IsPeriodic stream.now }
     requires table { All IsPeriodic beside.table.now }
     requires counted { All IsCounted beside.above.now }
-    ensures shares { IfOk result (λ shares.
-        IsDivided settings.now change.now beside.entry.table.now beside.entry.above.now class stream.now whole shares) }
+    ensures shares { IfOk result
+        (λ shares. IsDivided settings.now change.now beside.entry.table.now beside.entry.above.now class stream.now whole shares) }
     ensures memory { IfErr result (λ fault. fault ≡ Faults.Memory) }
 {
     let nothing = Beside {
@@ -208,8 +208,8 @@ pub fn shares_where(
     requires periodic { IsPeriodic stream.now }
     requires table { All IsPeriodic beside.table.now }
     requires counted { All IsCounted beside.above.now }
-    ensures shares { IfOk result (λ shares.
-        AreSharesOf settings.now change.now beside.entry.table.now beside.entry.above.now class stream.now whole shares) }
+    ensures shares { IfOk result
+        (λ shares. AreSharesOf settings.now change.now beside.entry.table.now beside.entry.above.now class stream.now whole shares) }
     ensures memory { IfErr result (λ fault. fault ≡ Faults.Memory) }
 {
     match whole {
@@ -239,9 +239,9 @@ pub fn asked_shares(
     requires table { All IsPeriodic beside.table.now }
     requires counted { All IsCounted beside.above.now }
     requires place { place < length streams.now }
-    ensures shares { IfOk result (λ shares. (x : Stream) → slice_get streams.now place ≡ Some x
-        → AreAskedShares settings.now.why settings.now change.now beside.entry.table.now beside.entry.above.now class x
-        (greatest_of (delay_at settings.now change.now x class own.now place)) shares) }
+    ensures shares { IfOk result
+        (λ shares. (x : Stream) → slice_get streams.now place ≡ Some x →
+        AreAskedShares settings.now.why settings.now change.now beside.entry.table.now beside.entry.above.now class x (greatest_of (delay_at settings.now change.now x class own.now place)) shares) }
     ensures memory { IfErr result (λ fault. fault ≡ Faults.Memory) }
 {
     if !settings.why {

@@ -99,9 +99,8 @@ fn is_met_with(alloc: Global, case: &Case<'_>, jitter: u128) -> Result<bool, Bou
     requires counted { All IsCounted case.now.beside.above.now }
     requires stream { slice_get case.now.streams.now case.now.place ≡ Some case.now.stream }
     requires jitter { jitter ≤ greatest_moment }
-    ensures met { IfOk result (λ met. IsMetWith case.now.settings.now case.now.change.now case.now.beside.table.now case.now.beside.above.now
-        case.now.streams.now
-        case.now.class case.now.place case.now.stream case.now.deadline jitter met) }
+    ensures met { IfOk result
+        (λ met. IsMetWith case.now.settings.now case.now.change.now case.now.beside.table.now case.now.beside.above.now case.now.streams.now case.now.class case.now.place case.now.stream case.now.deadline jitter met) }
     ensures memory { IfErr result (λ fault. fault ≡ Faults.Memory) }
 {
     let stream = jittered(case.stream, jitter);
@@ -152,15 +151,10 @@ fn narrowed(alloc: Global, case: &Case<'_>, met: u64, over: u64) -> Result<u64, 
     requires stream { slice_get case.now.streams.now case.now.place ≡ Some case.now.stream }
     requires order { met < over }
     requires within { over ≤ GREATEST + 1 }
-    requires met { IsMetWith case.now.settings.now case.now.change.now case.now.beside.table.now case.now.beside.above.now
-        case.now.streams.now
-        case.now.class case.now.place case.now.stream case.now.deadline (met * 1000) true }
-    requires over { IsOver case.now.settings.now case.now.change.now case.now.beside.table.now case.now.beside.above.now
-        case.now.streams.now
-        case.now.class case.now.place case.now.stream case.now.deadline (over * 1000) }
-    ensures slack { IfOk result (λ found. IsSlack case.now.settings.now case.now.change.now case.now.beside.table.now case.now.beside.above.now
-        case.now.streams.now
-        case.now.class case.now.place case.now.stream case.now.deadline (Some (found * 1000))) }
+    requires met { IsMetWith case.now.settings.now case.now.change.now case.now.beside.table.now case.now.beside.above.now case.now.streams.now case.now.class case.now.place case.now.stream case.now.deadline (met * 1000) true }
+    requires over { IsOver case.now.settings.now case.now.change.now case.now.beside.table.now case.now.beside.above.now case.now.streams.now case.now.class case.now.place case.now.stream case.now.deadline (over * 1000) }
+    ensures slack { IfOk result
+        (λ found. IsSlack case.now.settings.now case.now.change.now case.now.beside.table.now case.now.beside.above.now case.now.streams.now case.now.class case.now.place case.now.stream case.now.deadline (Some (found * 1000))) }
     ensures memory { IfErr result (λ fault. fault ≡ Faults.Memory) }
 {
     let mut low = met;
@@ -187,12 +181,9 @@ fn found_from(alloc: Global, case: &Case<'_>, guess: u64) -> Result<u64, BoundsF
     requires stream { slice_get case.now.streams.now case.now.place ≡ Some case.now.stream }
     requires above { 0 < guess }
     requires within { guess ≤ GREATEST }
-    requires met { IsMetWith case.now.settings.now case.now.change.now case.now.beside.table.now case.now.beside.above.now
-        case.now.streams.now
-        case.now.class case.now.place case.now.stream case.now.deadline 0 true }
-    ensures slack { IfOk result (λ found. IsSlack case.now.settings.now case.now.change.now case.now.beside.table.now case.now.beside.above.now
-        case.now.streams.now
-        case.now.class case.now.place case.now.stream case.now.deadline (Some (found * 1000))) }
+    requires met { IsMetWith case.now.settings.now case.now.change.now case.now.beside.table.now case.now.beside.above.now case.now.streams.now case.now.class case.now.place case.now.stream case.now.deadline 0 true }
+    ensures slack { IfOk result
+        (λ found. IsSlack case.now.settings.now case.now.change.now case.now.beside.table.now case.now.beside.above.now case.now.streams.now case.now.class case.now.place case.now.stream case.now.deadline (Some (found * 1000))) }
     ensures memory { IfErr result (λ fault. fault ≡ Faults.Memory) }
 {
     if is_met_with(alloc, case, u128::from(guess) * 1000)? {
@@ -210,9 +201,8 @@ fn slack_of(alloc: Global, case: &Case<'_>) -> Result<Option<u128>, BoundsFault>
     requires table { All IsPeriodic case.now.beside.table.now }
     requires counted { All IsCounted case.now.beside.above.now }
     requires stream { slice_get case.now.streams.now case.now.place ≡ Some case.now.stream }
-    ensures slack { IfOk result (IsSlack case.now.settings.now case.now.change.now case.now.beside.table.now case.now.beside.above.now
-        case.now.streams.now
-        case.now.class case.now.place case.now.stream case.now.deadline) }
+    ensures slack { IfOk result
+        (IsSlack case.now.settings.now case.now.change.now case.now.beside.table.now case.now.beside.above.now case.now.streams.now case.now.class case.now.place case.now.stream case.now.deadline) }
     ensures memory { IfErr result (λ fault. fault ≡ Faults.Memory) }
 {
     if !is_met_with(alloc, case, 0)? {
@@ -241,8 +231,9 @@ fn slack_at(
     requires table { All IsPeriodic beside.table.now }
     requires counted { All IsCounted beside.above.now }
     requires place { place < length streams.now }
-    ensures slack { IfOk result (λ slack. (x : Stream) → slice_get streams.now place ≡ Some x
-        → IsSlackOf settings.now change.now beside.entry.table.now beside.entry.above.now streams.now class place x x.deadline slack) }
+    ensures slack { IfOk result
+        (λ slack. (x : Stream) → slice_get streams.now place ≡ Some x →
+        IsSlackOf settings.now change.now beside.entry.table.now beside.entry.above.now streams.now class place x x.deadline slack) }
     ensures memory { IfErr result (λ fault. fault ≡ Faults.Memory) }
 {
     let stream = stream_at(streams, place);
@@ -281,8 +272,9 @@ pub fn asked_slack(
     requires table { All IsPeriodic beside.table.now }
     requires counted { All IsCounted beside.above.now }
     requires place { place < length streams.now }
-    ensures slack { IfOk result (λ slack. (x : Stream) → slice_get streams.now place ≡ Some x
-        → IsAskedSlack settings.now.slack settings.now change.now beside.entry.table.now beside.entry.above.now streams.now class place x slack) }
+    ensures slack { IfOk result
+        (λ slack. (x : Stream) → slice_get streams.now place ≡ Some x →
+        IsAskedSlack settings.now.slack settings.now change.now beside.entry.table.now beside.entry.above.now streams.now class place x slack) }
     ensures memory { IfErr result (λ fault. fault ≡ Faults.Memory) }
 {
     if settings.slack {

@@ -38,7 +38,8 @@ fn put_range<W: Write>(
     bound: Bound,
     needs: Needs,
 ) -> Result<(), WriteFault>
-    ensures { Writes result (W.contents writer.old) (W.contents writer.new) (range_text class word.now bound needs) }
+    ensures { Writes result (W.contents writer.old) (W.contents writer.new)
+        (range_text class word.now bound needs) }
 {
     put_parts(
         writer,
@@ -59,7 +60,8 @@ fn put_range<W: Write>(
 
 /// Writes what is told of a stream whose frames occupy the wire for so long, before its deadline.
 fn put_delay<W: Write>(writer: &mut W, needs: Needs, delay: Delay) -> Result<(), WriteFault>
-    ensures { Writes result (W.contents writer.old) (W.contents writer.new) (delay_text needs delay) }
+    ensures { Writes result (W.contents writer.old) (W.contents writer.new)
+        (delay_text needs delay) }
 {
     match delay {
         Delay::Exact(class, bound) => put_range(writer, class, b" wait ", bound, needs),
@@ -105,7 +107,8 @@ fn put_end<W: Write>(
     delay: Delay,
     deadline: Option<u128>,
 ) -> Result<(), WriteFault>
-    ensures { Writes result (W.contents writer.old) (W.contents writer.new) (deadline_end needs delay deadline) }
+    ensures { Writes result (W.contents writer.old) (W.contents writer.new)
+        (deadline_end needs delay deadline) }
 {
     match deadline {
         None => put_parts(writer, &[Part::Text(b"\n")]),
@@ -137,7 +140,8 @@ fn put_stream<W: Write>(
     stream: &Stream,
     delay: Delay,
 ) -> Result<(), WriteFault>
-    ensures { Writes result (W.contents writer.old) (W.contents writer.new) (bound_line needs stream.now delay) }
+    ensures { Writes result (W.contents writer.old) (W.contents writer.new)
+        (bound_line needs stream.now delay) }
 {
     put_head(writer, stream.first_id)?;
     put_delay(writer, needs, delay)?;
@@ -203,8 +207,10 @@ fn next_told(
     stream: &Stream,
 ) -> Told
     ensures delay { result.delay ≡ next_delay settings.now change.now answers.old stream.now }
-    ensures extra { result.extra ≡ extra_of answers.old (class_of settings.now change.now stream.now) }
-    ensures left { answers.new ≡ left_after answers.old (class_of settings.now change.now stream.now) }
+    ensures extra { result.extra
+        ≡ extra_of answers.old (class_of settings.now change.now stream.now) }
+    ensures left { answers.new
+        ≡ left_after answers.old (class_of settings.now change.now stream.now) }
 {
     let told = answers.next_told(class_of(settings, change, stream));
     Told {
@@ -242,7 +248,8 @@ fn put_slack_head<W: Write>(writer: &mut W, id: u64) -> Result<(), WriteFault>
 
 /// Writes the line of the jitter that a stream of this id may have.
 fn put_slack<W: Write>(writer: &mut W, id: u64, slack: Option<u128>) -> Result<(), WriteFault>
-    ensures { Writes result (W.contents writer.old) (W.contents writer.new) (slack_head id ++ slack_end slack) }
+    ensures { Writes result (W.contents writer.old) (W.contents writer.new)
+        (slack_head id ++ slack_end slack) }
 {
     put_slack_head(writer, id)?;
     put_slack_end(writer, slack)
@@ -266,7 +273,8 @@ fn put_asked_slack<W: Write>(
 
 /// Writes the line that says what the greatest wait of a stream of this id is made of.
 fn put_shares<W: Write>(writer: &mut W, id: u64, shares: Shares) -> Result<(), WriteFault>
-    ensures { Writes result (W.contents writer.old) (W.contents writer.new) (shares_line id shares) }
+    ensures { Writes result (W.contents writer.old) (W.contents writer.new)
+        (shares_line id shares) }
 {
     put_parts(
         writer,
@@ -303,7 +311,8 @@ fn put_extra<W: Write>(
     stream: &Stream,
     extra: Extra,
 ) -> Result<(), WriteFault>
-    ensures { Writes result (W.contents writer.old) (W.contents writer.new) (extra_lines asked stream.now extra) }
+    ensures { Writes result (W.contents writer.old) (W.contents writer.new)
+        (extra_lines asked stream.now extra) }
 {
     put_asked_slack(writer, asked, stream, extra.slack)?;
     put_why(writer, stream.first_id, extra.shares)
@@ -332,8 +341,10 @@ pub fn put_streams<W: Write>(
     answers: &mut Answers,
     streams: &[Stream],
 ) -> Result<Option<Finding>, WriteFault>
-    ensures lines { Writes result (W.contents writer.old) (W.contents writer.new) (bound_lines settings.now change.now answers.old streams.now) }
-    ensures finding { IfOk result (λ finding. finding ≡ finding_in settings.now change.now answers.old streams.now) }
+    ensures lines { Writes result (W.contents writer.old) (W.contents writer.new)
+        (bound_lines settings.now change.now answers.old streams.now) }
+    ensures finding { IfOk result
+        (λ finding. finding ≡ finding_in settings.now change.now answers.old streams.now) }
 {
     let mut first = None;
     for stream in streams {

@@ -101,9 +101,10 @@ fn bound_lines<A: Allocator, R: Read + Drop, W: Write, H: Watch>(
     watch: &mut H,
 ) -> Result<(), BoundsFault>
     requires { All IsPeriodic streams.now }
-    ensures { (read : List (List ℕ) → Result Command TcFault) → IsReader read
-        → IfSome (script_left R.remaining lines.old) (λ script.
-        RunsLines result read settings.now streams.now script (W.contents writer.old) (W.contents writer.new)) }
+    ensures { (read : List (List ℕ) → Result Command TcFault) → IsReader read →
+        IfSome (script_left R.remaining lines.old)
+        (λ script. RunsLines result read settings.now streams.now script (W.contents writer.old)
+        (W.contents writer.new)) }
 {
     let mut so_far = begun_with(streams);
     'lines: loop {
@@ -141,8 +142,9 @@ fn bound_table<A: Allocator, R: Read + Drop, S: Read + Drop, W: Write, H: Watch>
     settings: &BoundsSettings,
     watch: &mut H,
 ) -> Result<(), BoundsFault>
-    ensures { (read : List (List ℕ) → Result Command TcFault) → IsReader read
-        → IfSome (script_left R.remaining table.old) (λ table. IfSome (script_left S.remaining schedules.old) (λ script.
+    ensures { (read : List (List ℕ) → Result Command TcFault) → IsReader read →
+        IfSome (script_left R.remaining table.old)
+        (λ table. IfSome (script_left S.remaining schedules.old) (λ script.
         IsBounded (may_stop result) read settings.now (table_by periodic table) script
         (Runs result (W.contents writer.old) (W.contents writer.new)))) }
 {

@@ -25,7 +25,12 @@ impl<A: Allocator> Model for ClassSummary<A> {
 
     ghost Value = { ClassSeen };
 
-    ghost view = { λ c. record { arrivals = c.arrivals.items; room = c.arrivals.capacity; most = c.most; waits = c.waits } };
+    ghost view = { λ c. record {
+      arrivals = c.arrivals.items;
+      room = c.arrivals.capacity;
+      most = c.most;
+      waits = c.waits;
+    } };
 }
 
 impl<A: Allocator + Clone> PerClass<A> for ClassSummary<A> {

@@ -38,7 +38,8 @@ fn put_class_line<W: Write>(
     most: u64,
     writer: &mut W,
 ) -> Result<(), WriteFault>
-    ensures { Writes result (W.contents writer.old) (W.contents writer.new) (class_line class counters.now waits.now most) }
+    ensures { Writes result (W.contents writer.old) (W.contents writer.new)
+        (class_line class counters.now waits.now most) }
 {
     put_parts(
         writer,
@@ -75,7 +76,9 @@ pub(crate) fn put_class_text<W: Write>(
     most: u64,
     writer: &mut W,
 ) -> Result<(), WriteFault>
-    ensures { Writes result (W.contents writer.old) (W.contents writer.new) (if counters.now.accepted == 0 && dropped_of counters.now == 0 then [] else class_line class counters.now waits.now most) }
+    ensures { Writes result (W.contents writer.old) (W.contents writer.new)
+        (if counters.now.accepted == 0
+        && dropped_of counters.now == 0 then [] else class_line class counters.now waits.now most) }
 {
     if counters.accepted == 0 && dropped_of(counters) == 0 {
         return Ok(());
@@ -124,7 +127,8 @@ pub(crate) fn put_wire_line<W: Write>(
     writer: &mut W,
 ) -> Result<(), WriteFault>
     requires { busy ≤ greatest_moment }
-    ensures { Writes result (W.contents writer.old) (W.contents writer.new) (wire_line busy now first) }
+    ensures { Writes result (W.contents writer.old) (W.contents writer.new)
+        (wire_line busy now first) }
 {
     put_parts(
         writer,

@@ -19,7 +19,8 @@ use wire_time::CLASSES;
 /// A frame of a class is queued at a moment.
 fn arrives_in<A: Allocator>(classes: &mut [ClassSummary<A>; CLASSES], class: u8, now: u128)
     requires { class < CLASSES }
-    ensures { classes.new ≡ slice_set classes.old class (with_arrival now (class_at classes.old class)) }
+    ensures { classes.new
+        ≡ slice_set classes.old class (with_arrival now (class_at classes.old class)) }
 {
     classes[class as usize].arrives(now);
 }
@@ -27,7 +28,8 @@ fn arrives_in<A: Allocator>(classes: &mut [ClassSummary<A>; CLASSES], class: u8,
 /// The first frame of a class starts at a moment.
 fn starts_in<A: Allocator>(classes: &mut [ClassSummary<A>; CLASSES], class: u8, at: u128)
     requires { class < CLASSES }
-    ensures { classes.new ≡ slice_set classes.old class (with_start at (class_at classes.old class)) }
+    ensures { classes.new
+        ≡ slice_set classes.old class (with_start at (class_at classes.old class)) }
 {
     classes[class as usize].starts(at);
 }
@@ -66,7 +68,12 @@ impl<A: Allocator> Model for Summary<A> {
 
     ghost use Rattle.std.specs.Prelude.{◌≤◌};
 
-    ghost view = { λ s. record { classes = s.classes; busy = s.wire.busy; free = s.wire.free; first = s.wire.first } };
+    ghost view = { λ s. record {
+      classes = s.classes;
+      busy = s.wire.busy;
+      free = s.wire.free;
+      first = s.wire.first;
+    } };
 
     ghost invariant = { λ s. s.wire.busy ≤ s.wire.free };
 }
@@ -163,7 +170,8 @@ impl<A: Allocator> Summary<A> {
         writer: &mut W,
     ) -> Result<(), WriteFault>
         requires { class < CLASSES }
-        ensures { Writes result (W.contents writer.old) (W.contents writer.new) (class_text class counters.now (class_at self.now.classes class)) }
+        ensures { Writes result (W.contents writer.old) (W.contents writer.new)
+            (class_text class counters.now (class_at self.now.classes class)) }
     {
         let seen = class_in(&self.classes, class);
         put_class_text(class, counters, &seen.waits(), seen.most(), writer)
@@ -172,7 +180,8 @@ impl<A: Allocator> Summary<A> {
     /// Writes the line of the wire, up to this moment, in picoseconds. At a fault a prefix of it is written.
     pub fn put_wire<W: Write>(&self, now: u128, writer: &mut W) -> Result<(), WriteFault>
         requires { now ≤ greatest_moment }
-        ensures { Writes result (W.contents writer.old) (W.contents writer.new) (wire_text now self.now) }
+        ensures { Writes result (W.contents writer.old) (W.contents writer.new)
+            (wire_text now self.now) }
     {
         put_wire_line(self.busy_by(now), now, self.wire.first, writer)
     }

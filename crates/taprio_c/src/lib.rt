@@ -60,7 +60,10 @@ pub extern "C" fn taprio_run(
     ran: &mut Ran,
 )
     ensures { (read : List (List ℕ) → Result Command TcFault) → IsReader read →
-        Answers (told_by script_telling (λ settings. outcome_of read settings script.now) (settings_at (port_values values.now))) ran.new (slices output.old fault.old) (slices output.new fault.new) }
+        Answers
+        (told_by script_telling (λ settings. outcome_of read settings script.now)
+        (settings_at (port_values values.now))) ran.new (slices output.old fault.old)
+        (slices output.new fault.new) }
 {
     *ran = run_octets(&alloc, port_values(values), script, output, fault);
 }
@@ -76,7 +79,10 @@ pub extern "C" fn taprio_frames(
     ran: &mut Ran,
 )
     ensures { (read : List (List ℕ) → Result Command TcFault) → IsReader read →
-        Answers (told_by script_telling (λ settings. frames_of read settings script.now) (settings_at (port_values values.now))) ran.new (slices output.old fault.old) (slices output.new fault.new) }
+        Answers
+        (told_by script_telling (λ settings. frames_of read settings script.now)
+        (settings_at (port_values values.now))) ran.new (slices output.old fault.old)
+        (slices output.new fault.new) }
 {
     *ran = frames_octets(&alloc, port_values(values), script, output, fault);
 }
@@ -93,7 +99,10 @@ pub extern "C" fn taprio_frames_by_stream(
     ran: &mut Ran,
 )
     ensures { (read : List (List ℕ) → Result Command TcFault) → IsReader read →
-        Answers (told_by streams_telling (λ settings. frames_by_stream read settings table.now script.now) (settings_at (port_values values.now))) ran.new (slices output.old fault.old) (slices output.new fault.new) }
+        Answers
+        (told_by streams_telling (λ settings. frames_by_stream read settings table.now script.now)
+        (settings_at (port_values values.now))) ran.new (slices output.old fault.old)
+        (slices output.new fault.new) }
 {
     *ran = frames_by_stream_octets(&alloc, port_values(values), table, script, output, fault);
 }
@@ -109,8 +118,12 @@ pub extern "C" fn taprio_frames_of_capture(
     fault: &mut [u8],
     ran: &mut Ran,
 )
-    ensures { (read : List (List ℕ) → Result Command TcFault) → IsReader read → (records : Result (List Entry × End) CapFault) → ReadsAs capture.now records →
-        Answers (told_by replay_telling (λ settings. frames_of_capture read settings script.now records) (settings_at (port_values values.now))) ran.new (slices output.old fault.old) (slices output.new fault.new) }
+    ensures { (read : List (List ℕ) → Result Command TcFault) → IsReader read →
+        (records : Result (List Entry × End) CapFault) → ReadsAs capture.now records →
+        Answers
+        (told_by replay_telling (λ settings. frames_of_capture read settings script.now records)
+        (settings_at (port_values values.now))) ran.new (slices output.old fault.old)
+        (slices output.new fault.new) }
 {
     *ran = frames_of_capture_octets(&alloc, port_values(values), script, capture, output, fault);
 }
@@ -134,8 +147,12 @@ pub extern "C" fn taprio_check(
     fault: &mut [u8],
     ran: &mut Ran,
 )
-    ensures { (tell : Teller) → IsTeller tell → (read : List (List ℕ) → Result Command TcFault) → IsReader read →
-        Answers (told_by script_telling (λ ps. whole_check tell (usual false (is_wanted windows) ps) read schedules.now) (rate_at rate)) ran.new (slices output.old fault.old) (slices output.new fault.new) }
+    ensures { (tell : Teller) → IsTeller tell → (read : List (List ℕ) → Result Command TcFault) →
+        IsReader read →
+        Answers
+        (told_by script_telling
+        (λ ps. whole_check tell (usual false (is_wanted windows) ps) read schedules.now)
+        (rate_at rate)) ran.new (slices output.old fault.old) (slices output.new fault.new) }
 {
     let windows = is_wanted(windows);
     *ran = check_octets(&alloc, rate, false, windows, schedules, output, fault);
@@ -152,8 +169,12 @@ pub extern "C" fn taprio_check_shares(
     fault: &mut [u8],
     ran: &mut Ran,
 )
-    ensures { (tell : Teller) → IsTeller tell → (read : List (List ℕ) → Result Command TcFault) → IsReader read →
-        Answers (told_by script_telling (λ ps. whole_check tell (usual true (is_wanted windows) ps) read schedules.now) (rate_at rate)) ran.new (slices output.old fault.old) (slices output.new fault.new) }
+    ensures { (tell : Teller) → IsTeller tell → (read : List (List ℕ) → Result Command TcFault) →
+        IsReader read →
+        Answers
+        (told_by script_telling
+        (λ ps. whole_check tell (usual true (is_wanted windows) ps) read schedules.now)
+        (rate_at rate)) ran.new (slices output.old fault.old) (slices output.new fault.new) }
 {
     let windows = is_wanted(windows);
     *ran = check_octets(&alloc, rate, true, windows, schedules, output, fault);
@@ -169,7 +190,10 @@ pub extern "C" fn taprio_streams(
     fault: &mut [u8],
     ran: &mut Ran,
 )
-    ensures { Answers (told_of streams_telling (streams_outcome_of (timed_from Earliest 0) table.now script.now)) ran.new (slices output.old fault.old) (slices output.new fault.new) }
+    ensures { Answers
+        (told_of streams_telling
+        (streams_outcome_of (timed_from Earliest 0) table.now script.now)) ran.new
+        (slices output.old fault.old) (slices output.new fault.new) }
 {
     *ran = streams_octets(&alloc, Timing::Earliest, 0, table, script, output, fault);
 }
@@ -186,7 +210,11 @@ pub extern "C" fn taprio_streams_from(
     fault: &mut [u8],
     ran: &mut Ran,
 )
-    ensures { Answers (told_by streams_telling (λ from. streams_outcome_of (timed_from Earliest from) table.now script.now) (from_at (moment_of from_low from_high))) ran.new (slices output.old fault.old) (slices output.new fault.new) }
+    ensures { Answers
+        (told_by streams_telling
+        (λ from. streams_outcome_of (timed_from Earliest from) table.now script.now)
+        (from_at (moment_of from_low from_high))) ran.new (slices output.old fault.old)
+        (slices output.new fault.new) }
 {
     let from = moment_of(from_low, from_high);
     *ran = streams_octets(&alloc, Timing::Earliest, from, table, script, output, fault);
@@ -205,8 +233,10 @@ pub extern "C" fn taprio_streams_late(
     ran: &mut Ran,
 )
     ensures { Answers
-        (told_by streams_telling (λ from. streams_outcome_of (timed_from Latest from) table.now script.now)
-        (from_at (moment_of from_low from_high))) ran.new (slices output.old fault.old) (slices output.new fault.new) }
+        (told_by streams_telling
+        (λ from. streams_outcome_of (timed_from Latest from) table.now script.now)
+        (from_at (moment_of from_low from_high))) ran.new (slices output.old fault.old)
+        (slices output.new fault.new) }
 {
     let from = moment_of(from_low, from_high);
     *ran = streams_octets(&alloc, Timing::Latest, from, table, script, output, fault);
@@ -226,8 +256,10 @@ pub extern "C" fn taprio_streams_drawn(
     ran: &mut Ran,
 )
     ensures { Answers
-        (told_by streams_telling (λ from. streams_outcome_of (timed_from (Drawn seed) from) table.now script.now)
-        (from_at (moment_of from_low from_high))) ran.new (slices output.old fault.old) (slices output.new fault.new) }
+        (told_by streams_telling
+        (λ from. streams_outcome_of (timed_from (Drawn seed) from) table.now script.now)
+        (from_at (moment_of from_low from_high))) ran.new (slices output.old fault.old)
+        (slices output.new fault.new) }
 {
     let from = moment_of(from_low, from_high);
     *ran = streams_octets(
@@ -255,8 +287,10 @@ pub extern "C" fn taprio_bounds(
     ran: &mut Ran,
 )
     ensures { (read : List (List ℕ) → Result Command TcFault) → IsReader read →
-        AnswersBounds read (bounds_settings_at (port_values values.now) frames (asked_of 0)) table.now schedules.now
-        ran.new (slices output.old fault.old) (slices output.new fault.new) }
+        AnswersBounds read
+        (bounds_settings_at (port_values values.now) frames
+        (asked_of 0)) table.now schedules.now ran.new (slices output.old fault.old)
+        (slices output.new fault.new) }
 {
     *ran = bounds_octets(
         alloc,
@@ -283,8 +317,10 @@ pub extern "C" fn taprio_bounds_slack(
     ran: &mut Ran,
 )
     ensures { (read : List (List ℕ) → Result Command TcFault) → IsReader read →
-        AnswersBounds read (bounds_settings_at (port_values values.now) frames (asked_of 1)) table.now schedules.now
-        ran.new (slices output.old fault.old) (slices output.new fault.new) }
+        AnswersBounds read
+        (bounds_settings_at (port_values values.now) frames
+        (asked_of 1)) table.now schedules.now ran.new (slices output.old fault.old)
+        (slices output.new fault.new) }
 {
     *ran = bounds_octets(
         alloc,
@@ -313,8 +349,10 @@ pub extern "C" fn taprio_bounds_asked(
     ran: &mut Ran,
 )
     ensures { (read : List (List ℕ) → Result Command TcFault) → IsReader read →
-        AnswersBounds read (bounds_settings_at (port_values values.now) frames (asked_of asked)) table.now schedules.now
-        ran.new (slices output.old fault.old) (slices output.new fault.new) }
+        AnswersBounds read
+        (bounds_settings_at (port_values values.now) frames
+        (asked_of asked)) table.now schedules.now ran.new (slices output.old fault.old)
+        (slices output.new fault.new) }
 {
     *ran = bounds_octets(
         alloc,
@@ -339,7 +377,9 @@ pub extern "C" fn taprio_draw(
     fault: &mut [u8],
     ran: &mut Ran,
 )
-    ensures { DrawsWith (settings_at (port_values values.now)) (options_at (picture_values shown.now)) script.now ran.new (slices output.old fault.old) (slices output.new fault.new) }
+    ensures { DrawsWith (settings_at (port_values values.now))
+        (options_at (picture_values shown.now)) script.now ran.new (slices output.old fault.old)
+        (slices output.new fault.new) }
 {
     let shown = picture_values(shown);
     *ran = draw_octets(alloc, port_values(values), shown, script, output, fault);
@@ -357,8 +397,14 @@ pub extern "C" fn taprio_replay(
     fault: &mut [u8],
     ran: &mut ReplayRan,
 )
-    ensures { (read : List (List ℕ) → Result Command TcFault) → IsReader read → (records : Result (List Entry × End) CapFault) → ReadsAs capture.now records →
-        Replays (told_by_replay (λ settings. replay_outcome_of read settings Stamps.Start script.now records) (settings_at (port_values values.now))) ran.new (outputs report.old departures.old fault.old) (outputs report.new departures.new fault.new) }
+    ensures { (read : List (List ℕ) → Result Command TcFault) → IsReader read →
+        (records : Result (List Entry × End) CapFault) → ReadsAs capture.now records →
+        Replays
+        (told_by_replay
+        (λ settings. replay_outcome_of read settings Stamps.Start script.now records)
+        (settings_at (port_values values.now))) ran.new
+        (outputs report.old departures.old fault.old)
+        (outputs report.new departures.new fault.new) }
 {
     *ran = replay_octets(
         &alloc,
@@ -386,8 +432,14 @@ pub extern "C" fn taprio_replay_stamped(
     fault: &mut [u8],
     ran: &mut ReplayRan,
 )
-    ensures { (read : List (List ℕ) → Result Command TcFault) → IsReader read → (records : Result (List Entry × End) CapFault) → ReadsAs capture.now records →
-        Replays (told_by_replay (λ settings. replay_outcome_of read settings (stamp_of stamp) script.now records) (settings_at (port_values values.now))) ran.new (outputs report.old departures.old fault.old) (outputs report.new departures.new fault.new) }
+    ensures { (read : List (List ℕ) → Result Command TcFault) → IsReader read →
+        (records : Result (List Entry × End) CapFault) → ReadsAs capture.now records →
+        Replays
+        (told_by_replay
+        (λ settings. replay_outcome_of read settings (stamp_of stamp) script.now records)
+        (settings_at (port_values values.now))) ran.new
+        (outputs report.old departures.old fault.old)
+        (outputs report.new departures.new fault.new) }
 {
     let stamp = stamp_of(stamp);
     *ran = replay_octets(

@@ -61,7 +61,8 @@ fn put_clock_to<W: PutLine>(
     written: Option<u128>,
     moment: u128,
 ) -> Result<(), WriteFault>
-    ensures { Writes result (W.contents writer.old) (W.contents writer.new) (clock_to written moment) }
+    ensures { Writes result (W.contents writer.old) (W.contents writer.new)
+        (clock_to written moment) }
 {
     if written == Some(moment) {
         return Ok(());
@@ -82,7 +83,8 @@ fn put_coming<W: PutLine>(
     written: Option<u128>,
     coming: &Coming,
 ) -> Result<(), WriteFault>
-    ensures { Writes result (W.contents writer.old) (W.contents writer.new) (clock_to written coming.now.moment ++ frame_line coming.now.frame) }
+    ensures { Writes result (W.contents writer.old) (W.contents writer.new)
+        (clock_to written coming.now.moment ++ frame_line coming.now.frame) }
 {
     put_clock_to(writer, written, coming.moment)?;
     put_frame(writer, &coming.frame)
@@ -98,7 +100,8 @@ pub(crate) fn write_frames_before<W: PutLine>(
 ) -> Result<(), WriteFault>
     requires tournament { IsTournament turns.old nodes.old }
     ensures tournament { IsTournament turns.new nodes.new }
-    ensures lines { Writes result (W.contents writer.old) (W.contents writer.new) (lines_of written (frames_before end (left_of_all turns.old))) }
+    ensures lines { Writes result (W.contents writer.old) (W.contents writer.new)
+        (lines_of written (frames_before end (left_of_all turns.old))) }
     ensures left { OnOk result (left_of_all turns.new ≡ frames_from end (left_of_all turns.old)) }
 {
     while let Some(coming) = next_before(turns, nodes, end) {
@@ -118,7 +121,8 @@ pub(crate) fn write_frames<W: PutLine>(
     mut written: Option<u128>,
 ) -> Result<(), WriteFault>
     requires tournament { IsTournament turns.old nodes.old }
-    ensures { Writes result (W.contents writer.old) (W.contents writer.new) (lines_of written (left_of_all turns.old)) }
+    ensures { Writes result (W.contents writer.old) (W.contents writer.new)
+        (lines_of written (left_of_all turns.old)) }
 {
     while let Some(coming) = next_frame(turns, nodes) {
         put_coming(writer, written, &coming)?;

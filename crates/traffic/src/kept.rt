@@ -30,7 +30,8 @@ impl<A: Allocator> Model for KeptStreams<A> {
 
     ghost view = { λ k. record { streams = k.list.items; plan = k.plan } };
 
-    ghost invariant = { λ k. All (IsKept (judged k.plan)) k.list.items × (k.plan.from ≤ greatest_moment) };
+    ghost invariant = { λ k. All (IsKept (judged k.plan)) k.list.items
+        × (k.plan.from ≤ greatest_moment) };
 }
 
 impl<A: Allocator> KeptStreams<A> {
@@ -89,7 +90,9 @@ pub(crate) fn turns_of<A: Allocator>(
 ) -> Result<Vec<Turn, A>, AllocError>
     requires from { plan.now.from ≤ greatest_moment }
     requires kept { All (IsKept (judged plan.now)) streams.now }
-    ensures { IfOk result (λ turns. flat_map left_of turns.items ≡ flat_map frames_of (courses_from plan.now 0 streams.now)) }
+    ensures { IfOk result
+        (λ turns. flat_map left_of turns.items
+        ≡ flat_map frames_of (courses_from plan.now 0 streams.now)) }
 {
     let mut turns = Vec::with_capacity(alloc, streams.len())?;
     let mut place = 0u64;

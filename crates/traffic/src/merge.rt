@@ -76,8 +76,10 @@ fn put_at<W: PutLine>(
 ) -> Result<(), WriteFault>
     requires tournament { IsTournament turns.old nodes.old }
     ensures tournament { IsTournament turns.new nodes.new }
-    ensures lines { Writes result (W.contents writer.old) (W.contents writer.new) (lines_of written (frames_before moment (left_of_all turns.old)) ++ line_text line.now) }
-    ensures left { OnOk result (left_of_all turns.new ≡ frames_from moment (left_of_all turns.old)) }
+    ensures lines { Writes result (W.contents writer.old) (W.contents writer.new)
+        (lines_of written (frames_before moment (left_of_all turns.old)) ++ line_text line.now) }
+    ensures left { OnOk result
+        (left_of_all turns.new ≡ frames_from moment (left_of_all turns.old)) }
 {
     write_frames_before(writer, turns, nodes, written, moment)?;
     put_line(writer, line)
@@ -108,7 +110,10 @@ pub(crate) fn write_merged<
 ) -> Result<(), StreamsFault>
     requires tournament { IsTournament turns.old nodes.old }
     requires room { IsRoomLeft room (left_of_all streams.old) (left_of_all turns.old) }
-    ensures { IfSome (script_left R.remaining lines.old) (λ script. Runs result (W.contents writer.old) (W.contents writer.new) (merging None (passed_on (MAX_LINES - line_count None (left_of_all turns.old)) script) (left_of_all turns.old))) }
+    ensures { IfSome (script_left R.remaining lines.old)
+        (λ script. Runs result (W.contents writer.old) (W.contents writer.new)
+        (merging None (passed_on (MAX_LINES - line_count None (left_of_all turns.old)) script)
+        (left_of_all turns.old))) }
 {
     let mut room = room;
     let mut clock = None;

@@ -82,7 +82,8 @@ fn count_lines(turns: &mut [Turn], nodes: &mut [Node]) -> Option<u32>
 /// How many physical lines of a script have room beside the frames of streams that are to come, where these have room.
 /// The frames are taken: no more of them are looked at than have room.
 fn counted_room<A: Allocator>(alloc: A, streams: &mut [Turn]) -> Result<Option<u32>, AllocError>
-    ensures { IfOk result (λ lines. lines ≡ room_beside (line_count None (left_of_all streams.old))) }
+    ensures { IfOk result
+        (λ lines. lines ≡ room_beside (line_count None (left_of_all streams.old))) }
 {
     let mut nodes = tournament(alloc, streams)?;
     match count_lines(streams, nodes.as_mut_slice()) {
@@ -117,8 +118,11 @@ pub(crate) fn script_room<A: Allocator>(
     counted: FrameCount,
 ) -> Result<Option<ScriptRoom>, AllocError>
     requires { AreCounted counted (left_of_all streams.old) }
-    ensures room { IfOk result (λ room. IfSome room (λ r. IsRoomLeft r (left_of_all streams.new) (left_of_all streams.old))) }
-    ensures none { IfOk result (λ room. room ≡ None → lines_taken (line_count None (left_of_all streams.old)) ≡ None) }
+    ensures room { IfOk result
+        (λ room. IfSome room (λ r.
+        IsRoomLeft r (left_of_all streams.new) (left_of_all streams.old))) }
+    ensures none { IfOk result
+        (λ room. room ≡ None → lines_taken (line_count None (left_of_all streams.old)) ≡ None) }
 {
     match counted {
         FrameCount::Few(frames) => {
@@ -141,7 +145,8 @@ pub(crate) fn room_for<A: Allocator + Clone>(
     number: u32,
     line: &[u8],
 ) -> Result<ScriptRoom, AllocError>
-    ensures { (all : List Coming) → IsRoomLeft room (left_of_all streams.old) all → IfOk result (λ r. IsRoomFor r (left_of_all streams.new) all number line.now) }
+    ensures { (all : List Coming) → IsRoomLeft room (left_of_all streams.old) all →
+        IfOk result (λ r. IsRoomFor r (left_of_all streams.new) all number line.now) }
 {
     let ScriptRoom::AtLeast(lines) = room else {
         return Ok(room);

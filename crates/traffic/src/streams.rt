@@ -40,7 +40,9 @@ fn write_streams_read<A: Allocator, B: Allocator + Clone, R: Read + Drop, W: Put
     requires from { plan.now.from ≤ greatest_moment }
     requires kept { All (IsKept (judged plan.now)) streams.now }
     requires counted { AreCounted counted (plan_frames plan.now streams.now) }
-    ensures { IfSome (script_left R.remaining script.old) (λ script. Runs result (W.contents writer.old) (W.contents writer.new) (outcome_among counted (plan_frames plan.now streams.now) script)) }
+    ensures { IfSome (script_left R.remaining script.old)
+        (λ script. Runs result (W.contents writer.old) (W.contents writer.new)
+        (outcome_among counted (plan_frames plan.now streams.now) script)) }
 {
     let mut turns = turns_of(alloc, plan, streams)?;
     let mut uncounted = turns.to_vec(alloc)?;
@@ -79,7 +81,10 @@ fn write_table<
     watch: &mut H,
 ) -> Result<(), StreamsFault>
     requires { plan.from ≤ greatest_moment }
-    ensures { IfSome (script_left R.remaining table.old) (λ table. IfSome (script_left S.remaining script.old) (λ script. Runs result (W.contents writer.old) (W.contents writer.new) (outcome_by_lines plan table script))) }
+    ensures { IfSome (script_left R.remaining table.old)
+        (λ table. IfSome (script_left S.remaining script.old) (λ script.
+        Runs result (W.contents writer.old) (W.contents writer.new)
+        (outcome_by_lines plan table script))) }
 {
     let mut kept = KeptStreams::new(alloc, plan);
     match read_table(table, &mut kept, watch) {
@@ -112,7 +117,10 @@ pub fn write_streams<A: Allocator, R: Read + Drop, S: Read + Drop, W: PutLine, H
     watch: &mut H,
 ) -> Result<(), StreamsFault>
     requires { plan.from ≤ greatest_moment }
-    ensures { IfSome (R.remaining table) (λ table. IfSome (S.remaining script) (λ script. Runs result (W.contents writer.old) (W.contents writer.new) (outcome_of plan table script))) }
+    ensures { IfSome (R.remaining table)
+        (λ table. IfSome (S.remaining script) (λ script.
+        Runs result (W.contents writer.old) (W.contents writer.new)
+        (outcome_of plan table script))) }
 {
     let mut table = LineReader::new(&alloc, table)?;
     let mut script = LineReader::new(&alloc, script)?;

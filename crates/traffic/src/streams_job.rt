@@ -101,8 +101,11 @@ pub fn answer_streams<
     errors: &mut E,
     watch: &mut H,
 ) -> (Ended, W)
-    ensures ending { IsStreamsEnding (plan_given (words_of_streams words.entry)) (R.remaining reader.old) (S.remaining script) result.0 (writer_contents W.contents answers) (W.contents result.1) (E.contents errors.old) (E.contents errors.new) }
-    ensures unread { IfErr (plan_given (words_of_streams words.entry)) (λ _. reader.new ≡ reader.old) }
+    ensures ending { IsStreamsEnding (plan_given (words_of_streams words.entry))
+        (R.remaining reader.old) (S.remaining script) result.0 (writer_contents W.contents answers)
+        (W.contents result.1) (E.contents errors.old) (E.contents errors.new) }
+    ensures unread { IfErr (plan_given (words_of_streams words.entry))
+        (λ _. reader.new ≡ reader.old) }
 {
     match plan_given(words) {
         Ok(plan) => {

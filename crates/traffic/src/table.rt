@@ -91,7 +91,8 @@ fn shortest_of(said: Option<u32>, len: u32) -> Option<u32>
 fn stream_in_words(words: &StreamWords<'_>, ends: Ends) -> Result<Stream, ScriptFault>
     requires { IfSome ends.jitter (λ time. time ≤ greatest_moment) }
     ensures fits { IfOk result IsSaid }
-    ensures said { result ≡ stream_in_words words.now.id.now words.now.priority.now words.now.len.now words.now.period.now words.now.offset.now words.now.count.now ends }
+    ensures said { result
+        ≡ stream_in_words words.now.id.now words.now.priority.now words.now.len.now words.now.period.now words.now.offset.now words.now.count.now ends }
 {
     let Some(id) = number(words.id, u128::from(u64::MAX)) else {
         return Err(ScriptFault::BadNumber);

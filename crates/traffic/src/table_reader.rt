@@ -46,7 +46,8 @@ pub trait StreamTaker {
         requires said { IsSaid stream }
         ensures judge { judge self.new ≡ judge self.old }
         ensures taken { IsTaken result (judge self.old stream) (taken self.old) (taken self.new) }
-        ensures alerts { H.alerted (alerts_judged tells number (judge self.old stream)) watch.old watch.new };
+        ensures alerts { H.alerted
+            (alerts_judged tells number (judge self.old stream)) watch.old watch.new };
 }
 
 /// Takes the stream that a line says, if it isn't skipped.
@@ -57,8 +58,11 @@ fn take_line<T: StreamTaker, H: Watch>(
     watch: &mut H,
 ) -> Result<Option<Stream>, Untaken>
     ensures judge { T.judge taker.new ≡ T.judge taker.old }
-    ensures taken { TakesLine result (line_judged (T.judge taker.old) (words_of line.now)) (T.taken taker.old) (T.taken taker.new) }
-    ensures alerts { H.alerted (alerts_said T.tells number (line_judged (T.judge taker.old) (words_of line.now))) watch.old watch.new }
+    ensures taken { TakesLine result (line_judged (T.judge taker.old) (words_of line.now))
+        (T.taken taker.old) (T.taken taker.new) }
+    ensures alerts { H.alerted
+        (alerts_said T.tells number
+        (line_judged (T.judge taker.old) (words_of line.now))) watch.old watch.new }
 {
     match read_stream_line(line) {
         Ok(None) => Ok(None),
@@ -91,12 +95,14 @@ pub fn read_table<T: StreamTaker, A: Allocator, R: Read + Drop, H: Watch>(
     taker: &mut T,
     watch: &mut H,
 ) -> Result<FrameCount, RunFault>
-    ensures table { IfSome (script_left R.remaining lines.old) (λ script.
-        ReadsTable result (table_by (T.judge taker.old) script) (T.taken taker.old) (T.taken taker.new)) }
+    ensures table { IfSome (script_left R.remaining lines.old)
+        (λ script. ReadsTable result (table_by (T.judge taker.old) script) (T.taken taker.old)
+        (T.taken taker.new)) }
     ensures counted { IfSome (script_left R.remaining lines.old) (λ script.
         IfOk result (λ counted. counted ≡ counted_in (T.judge taker.old) (Few 0) script)) }
-    ensures alerts { IfSome (script_left R.remaining lines.old) (λ script.
-        Watched H.alerted (table_alerts T.tells (T.judge taker.old) script) result watch.old watch.new) }
+    ensures alerts { IfSome (script_left R.remaining lines.old)
+        (λ script. Watched H.alerted
+        (table_alerts T.tells (T.judge taker.old) script) result watch.old watch.new) }
     ensures judge { T.judge taker.new ≡ T.judge taker.old }
     ensures few { T.taken taker.old ≡ []
         → IfOk result (λ counted. IsCount counted (frame_count (T.taken taker.new))) }

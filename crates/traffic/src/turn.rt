@@ -49,7 +49,8 @@ impl Turn {
 
     /// Takes the next frame of the stream, if there is one.
     pub fn take(&mut self) -> Option<Coming>
-        ensures left { MatchOption result (left_of self.old ≡ []) (λ f. left_of self.old ≡ f ∷ left_of self.new) }
+        ensures left { MatchOption result (left_of self.old ≡ [])
+            (λ f. left_of self.old ≡ f ∷ left_of self.new) }
         ensures same { IfNone result (self.new ≡ self.old) }
     {
         if self.come == self.course.count {

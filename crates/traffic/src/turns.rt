@@ -12,7 +12,8 @@ use crate::turn::Turn;
 pub(crate) fn next_frame(turns: &mut [Turn], nodes: &mut [Node]) -> Option<Coming>
     requires tournament { IsTournament turns.old nodes.old }
     ensures tournament { IsTournament turns.new nodes.new }
-    ensures left { MatchOption result (left_of_all turns.old ≡ []) (λ f. left_of_all turns.old ≡ f ∷ left_of_all turns.new) }
+    ensures left { MatchOption result (left_of_all turns.old ≡ [])
+        (λ f. left_of_all turns.old ≡ f ∷ left_of_all turns.new) }
 {
     let Head { place, .. } = first(nodes, turns)?;
     let coming = turns[place].take();
@@ -24,8 +25,12 @@ pub(crate) fn next_frame(turns: &mut [Turn], nodes: &mut [Node]) -> Option<Comin
 pub(crate) fn next_before(turns: &mut [Turn], nodes: &mut [Node], end: u128) -> Option<Coming>
     requires tournament { IsTournament turns.old nodes.old }
     ensures tournament { IsTournament turns.new nodes.new }
-    ensures before { MatchOption result (frames_before end (left_of_all turns.old) ≡ []) (λ f. frames_before end (left_of_all turns.old) ≡ f ∷ frames_before end (left_of_all turns.new)) }
-    ensures others { MatchOption result (frames_from end (left_of_all turns.old) ≡ left_of_all turns.new) (λ f. frames_from end (left_of_all turns.old) ≡ frames_from end (left_of_all turns.new)) }
+    ensures before { MatchOption result (frames_before end (left_of_all turns.old) ≡ [])
+        (λ f. frames_before end (left_of_all turns.old)
+        ≡ f ∷ frames_before end (left_of_all turns.new)) }
+    ensures others { MatchOption result
+        (frames_from end (left_of_all turns.old) ≡ left_of_all turns.new)
+        (λ f. frames_from end (left_of_all turns.old) ≡ frames_from end (left_of_all turns.new)) }
 {
     let Head { moment, place } = first(nodes, turns)?;
     if moment >= end {

@@ -77,8 +77,10 @@ where
     requires every { IsCommonTime (talkers_of flows.now) (in_ps schedule.now.cycle) every }
     ensures count { IfOk result (λ found. IfSome found (λ bounds.
         length bounds.items ≡ length flows.now)) }
-    ensures greatest { IfOk result (λ found. IfSome found (λ bounds.
-        (i : ℕ) → i < length flows.now → (bound_at bounds.items i).greatest ≡ slice_index waits.now i)) }
+    ensures greatest { IfOk result
+        (λ found. IfSome found (λ bounds.
+        (i : ℕ) → i < length flows.now →
+        (bound_at bounds.items i).greatest ≡ slice_index waits.now i)) }
     ensures least { IfOk result (λ found. IfSome found (λ bounds. (i : ℕ) → i < length flows.now
         → IsLeastWait (may_by schedule.now class) (periodic_of (jittered_at flows.now i))
         (bound_at bounds.items i).least)) }

@@ -59,7 +59,8 @@ impl Model for Rate {
 
     ghost view = { λ r. r.ps_per_octet };
 
-    ghost invariant = { λ r. (MIN_PS_PER_OCTET ≤ r.ps_per_octet) × (r.ps_per_octet ≤ MAX_PS_PER_OCTET) };
+    ghost invariant = { λ r. (MIN_PS_PER_OCTET ≤ r.ps_per_octet)
+        × (r.ps_per_octet ≤ MAX_PS_PER_OCTET) };
 
     ghost inverse = { λ n. record { ps_per_octet = n } };
 }
@@ -147,5 +148,6 @@ pub fn sdu(frame: &Frame) -> Option<u32>
 /// Nothing to run: its contract is the law that no frame whose service data unit is within the mtu occupies the wire
 /// for longer than the lead.
 pub fn lead_law()
-    ensures { (ps mtu : ℕ) (f : Frame) (sdu : ℕ) → 42 ≤ mtu → sdu_of f ≡ Some sdu → sdu ≤ mtu → occupancy_of ps f.len ≤ lead_of ps mtu }
+    ensures { (ps mtu : ℕ) (f : Frame) (sdu : ℕ) → 42 ≤ mtu → sdu_of f ≡ Some sdu → sdu ≤ mtu →
+        occupancy_of ps f.len ≤ lead_of ps mtu }
 {}

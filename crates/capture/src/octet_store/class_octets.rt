@@ -48,7 +48,10 @@ impl<A: Allocator> Model for ClassOctets<A> {
     ghost use Rattle.capture.specs.Laid.{AreLaid, kept_of};
     ghost use Rattle.capture.specs.OctetQueue.{held};
 
-    ghost view = { λ c. record { frames = kept_of c.lengths.items (held c.octets); room = c.lengths.capacity } };
+    ghost view = { λ c. record {
+      frames = kept_of c.lengths.items (held c.octets);
+      room = c.lengths.capacity;
+    } };
 
     ghost invariant = { λ c. AreLaid c.lengths.items (held c.octets) };
 }
@@ -91,7 +94,8 @@ impl<A: Allocator> ClassOctets<A> {
         A: Clone,
         requires room { length self.old.frames < self.old.room }
         requires size { length octets.now ≤ MAX_OCTETS }
-        ensures ok { OnOk result (self.new ≡ with_frames self.old (self.old.frames ++ kept original octets.now ∷ [])) }
+        ensures ok { OnOk result
+            (self.new ≡ with_frames self.old (self.old.frames ++ kept original octets.now ∷ [])) }
         ensures err { OnErr result (self.new ≡ self.old) }
     {
         self.octets.make_room(octets.len())?;
@@ -106,7 +110,8 @@ impl<A: Allocator> ClassOctets<A> {
     /// The first frame.
     pub fn first(&self) -> First<'_>
         requires { 0 < length self.now.frames }
-        ensures first { slice_get self.now.frames 0 ≡ Some (kept result.original result.octets.now) }
+        ensures first { slice_get self.now.frames 0
+            ≡ Some (kept result.original result.octets.now) }
         ensures within { length result.octets.now ≤ MAX_OCTETS }
     {
         let lengths = self.lengths.front().copied().unwrap();

@@ -38,7 +38,8 @@ fn move_down(octets: &mut [u8], head: usize, end: usize)
 #[inline(always)]
 fn put_at<A: Allocator>(octets: &mut Vec<u8, A>, at: usize, new: &[u8])
     requires { at + length new.now ≤ vec_len octets.old }
-    ensures new { take (at + length new.now) octets.new.items ≡ take at octets.old.items ++ new.now }
+    ensures new { take (at + length new.now) octets.new.items
+        ≡ take at octets.old.items ++ new.now }
     ensures room { vec_len octets.new ≡ vec_len octets.old }
 {
     let end = at + new.len();

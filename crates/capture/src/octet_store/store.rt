@@ -23,7 +23,8 @@ fn len_in<A: Allocator>(classes: &[ClassOctets<A>; CLASSES], class: u8) -> usize
 /// Whether there is room for one frame more in a class.
 fn has_room_in<A: Allocator>(classes: &[ClassOctets<A>; CLASSES], class: u8) -> bool
     requires { class < CLASSES }
-    ensures { IsTrue result ↔ (length (class_at classes.now class).frames < (class_at classes.now class).room) }
+    ensures { IsTrue result
+        ↔ (length (class_at classes.now class).frames < (class_at classes.now class).room) }
 {
     classes[class as usize].has_room()
 }
@@ -38,7 +39,11 @@ fn put_in<A: Allocator + Clone>(
     requires class { class < CLASSES }
     requires room { length (class_at classes.old class).frames < (class_at classes.old class).room }
     requires size { length octets.now ≤ MAX_OCTETS }
-    ensures ok { OnOk result (classes.new ≡ slice_set classes.old class (with_frames (class_at classes.old class) ((class_at classes.old class).frames ++ kept original octets.now ∷ []))) }
+    ensures ok { OnOk result
+        (classes.new
+        ≡ slice_set classes.old class
+        (with_frames (class_at classes.old class)
+        ((class_at classes.old class).frames ++ kept original octets.now ∷ []))) }
     ensures err { OnErr result (classes.new ≡ classes.old) }
 {
     classes[class as usize].put(original, octets)
@@ -48,7 +53,8 @@ fn put_in<A: Allocator + Clone>(
 fn first_in<A: Allocator>(classes: &[ClassOctets<A>; CLASSES], class: u8) -> First<'_>
     requires class { class < CLASSES }
     requires waits { 0 < length (class_at classes.now class).frames }
-    ensures first { slice_get (class_at classes.now class).frames 0 ≡ Some (kept result.original result.octets.now) }
+    ensures first { slice_get (class_at classes.now class).frames 0
+        ≡ Some (kept result.original result.octets.now) }
     ensures within { length result.octets.now ≤ MAX_OCTETS }
 {
     classes[class as usize].first()
@@ -58,7 +64,9 @@ fn first_in<A: Allocator>(classes: &[ClassOctets<A>; CLASSES], class: u8) -> Fir
 fn give_up_in<A: Allocator>(classes: &mut [ClassOctets<A>; CLASSES], class: u8)
     requires class { class < CLASSES }
     requires waits { 0 < length (class_at classes.old class).frames }
-    ensures { classes.new ≡ slice_set classes.old class (with_frames (class_at classes.old class) (drop 1 (class_at classes.old class).frames)) }
+    ensures { classes.new
+        ≡ slice_set classes.old class
+        (with_frames (class_at classes.old class) (drop 1 (class_at classes.old class).frames)) }
 {
     classes[class as usize].give_up();
 }
@@ -122,7 +130,12 @@ impl<A: Allocator> OctetStore<A> {
         requires class { class < CLASSES }
         requires room { length (kept_at self.old.kept class) < self.old.room }
         requires size { length octets.now ≤ MAX_OCTETS }
-        ensures ok { OnOk result (self.new ≡ record self.old { kept = slice_set self.old.kept class (kept_at self.old.kept class ++ kept original octets.now ∷ []) }) }
+        ensures ok { OnOk result
+            (self.new
+            ≡ record self.old {
+              kept = slice_set self.old.kept class
+                  (kept_at self.old.kept class ++ kept original octets.now ∷ []);
+            }) }
         ensures err { OnErr result (self.new ≡ self.old) }
     {
         put_in(&mut self.classes, class, original, octets)?;
@@ -133,7 +146,8 @@ impl<A: Allocator> OctetStore<A> {
     pub fn first(&self, class: u8) -> First<'_>
         requires class { class < CLASSES }
         requires waits { 0 < length (kept_at self.now.kept class) }
-        ensures first { slice_get (kept_at self.now.kept class) 0 ≡ Some (kept result.original result.octets.now) }
+        ensures first { slice_get (kept_at self.now.kept class) 0
+            ≡ Some (kept result.original result.octets.now) }
         ensures within { length result.octets.now ≤ MAX_OCTETS }
     {
         first_in(&self.classes, class)
@@ -143,7 +157,11 @@ impl<A: Allocator> OctetStore<A> {
     pub fn give_up(&mut self, class: u8)
         requires class { class < CLASSES }
         requires waits { 0 < length (kept_at self.old.kept class) }
-        ensures { self.new ≡ record self.old { kept = slice_set self.old.kept class (drop 1 (kept_at self.old.kept class)) } }
+        ensures { self.new
+            ≡ record self.old {
+              kept = slice_set self.old.kept class
+                  (drop 1 (kept_at self.old.kept class));
+            } }
     {
         give_up_in(&mut self.classes, class);
     }

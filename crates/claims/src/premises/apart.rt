@@ -51,7 +51,8 @@ fn is_scheduled<G: Gates, A: Allocator>(port: &mut Port<G, A>) -> bool
 /// Whether an arrival of this priority is as the law of separation asks: its class is another, or a schedule is in
 /// force.
 fn is_arrival_apart<G: Gates, A: Allocator>(port: &mut Port<G, A>, class: u8, priority: u8) -> bool
-    ensures apart { IsTrue result ↔ (class_for port.old.port priority ≡ Some class → IsScheduled port.old.port) }
+    ensures apart { IsTrue result
+        ↔ (class_for port.old.port priority ≡ Some class → IsScheduled port.old.port) }
     ensures same { port.new ≡ port.old }
 {
     port.class_for(priority) != Some(class) || is_scheduled(port)
@@ -64,7 +65,8 @@ pub(crate) fn install_apart<G: Gates, A: Allocator>(
     command: &Command,
 ) -> bool
     requires { class < CLASSES }
-    ensures apart { IsTrue result ↔ (refusal port.old.port command.now ≡ None → IsApart class command.now) }
+    ensures apart { IsTrue result
+        ↔ (refusal port.old.port command.now ≡ None → IsApart class command.now) }
     ensures port { port.new.port ≡ (installs port.old.port command.now).1 }
     ensures sound { IsSoundPort port.new.port }
 {
@@ -136,10 +138,13 @@ pub fn separated(
     events: &[Event<'_>],
 ) -> Result<bool, PortFault>
     requires { class < CLASSES }
-    ensures premise { IfOk result (λ yes. IsTrue yes ↔ IsKeptApart class events.now (new_port rate 1500 128)) }
-    ensures law { IfOk result (λ yes. IsTrue yes →
+    ensures premise { IfOk result
+        (λ yes. IsTrue yes ↔ IsKeptApart class events.now (new_port rate 1500 128)) }
+    ensures law { IfOk result
+        (λ yes. IsTrue yes →
         concerning class (noted events.now (new_port rate 1500 128))
-        ≡ concerning class (noted (only class events.now (new_port rate 1500 128)) (new_port rate 1500 128))) }
+        ≡ concerning class
+        (noted (only class events.now (new_port rate 1500 128)) (new_port rate 1500 128))) }
     ensures refused { IfErr result (λ fault. fault ≡ PortFault.Memory) }
 {
     separation();

@@ -34,7 +34,8 @@ fn is_class(class: u8, found: Option<u8>) -> bool
 
 /// Whether a frame with this verdict is offered to the queue of a class, where it is of the class or not.
 fn is_offered(class: u8, of_class: bool, verdict: Result<u8, Dropped>) -> bool
-    ensures { (p : AbstractPort) (f : Frame) → is_class class (class_for p f.priority) ≡ of_class → offered_as class p f verdict ≡ (if result then came_now p f ∷ [] else []) }
+    ensures { (p : AbstractPort) (f : Frame) → is_class class (class_for p f.priority) ≡ of_class →
+        offered_as class p f verdict ≡ (if result then came_now p f ∷ [] else []) }
 {
     match verdict {
         Ok(other) => other == class,
@@ -45,7 +46,8 @@ fn is_offered(class: u8, of_class: bool, verdict: Result<u8, Dropped>) -> bool
 
 /// A frame arrives: whether the queue of the class is offered it.
 fn arrive_offered<G: Gates, A: Allocator>(port: &mut Port<G, A>, class: u8, frame: Frame) -> bool
-    ensures offered { offered_by class (Events.Arrive frame) port.old.port ≡ (if result then came_now port.old.port frame ∷ [] else []) }
+    ensures offered { offered_by class (Events.Arrive frame) port.old.port
+        ≡ (if result then came_now port.old.port frame ∷ [] else []) }
     ensures port { port.new.port ≡ settled (answers_to (Events.Arrive frame) port.old.port).1 }
     ensures sound { IsSoundPort port.new.port }
 {
@@ -56,7 +58,8 @@ fn arrive_offered<G: Gates, A: Allocator>(port: &mut Port<G, A>, class: u8, fram
 /// When the frame behind one of a flow comes, where that one comes at this moment, has this length, and was to come at
 /// `next`.
 fn behind(rate: Rate, change: u128, flow: Flow, next: u128, now: u128, len: u32) -> Option<u128>
-    ensures due { IfSome result (λ later. IsDue rate change flow next now len × (later ≡ capped (next + flow.period))) }
+    ensures due { IfSome result
+        (λ later. IsDue rate change flow next now len × (later ≡ capped (next + flow.period))) }
     ensures other { IfNone result (¬ IsDue rate change flow next now len) }
 {
     if now >= change && now - change == next && occupancy(rate, len) == flow.need {
@@ -70,7 +73,8 @@ fn behind(rate: Rate, change: u128, flow: Flow, next: u128, now: u128, len: u32)
 /// Gives a command, and answers whether it is accepted.
 fn is_accepted<G: Gates, A: Allocator>(port: &mut Port<G, A>, command: &Command) -> bool
     ensures accepted { IsTrue result ↔ (refusal port.old.port command.now ≡ None) }
-    ensures port { port.new.port ≡ settled (answers_to (Events.Install command.entry) port.old.port).1 }
+    ensures port { port.new.port
+        ≡ settled (answers_to (Events.Install command.entry) port.old.port).1 }
     ensures sound { IsSoundPort port.new.port }
 {
     match port.install(command) {
@@ -91,7 +95,8 @@ fn take_next<G: Gates, A: Allocator>(
     event: &Event<'_>,
 ) -> Option<u128>
     ensures refused { IfSome result (λ later. IsRefused event.now port.old.port) }
-    ensures next { IfSome result (λ later. IsNextAt rate class change flow event.now port.old.port next later) }
+    ensures next { IfSome result
+        (λ later. IsNextAt rate class change flow event.now port.old.port next later) }
     ensures other { IfNone result (IsOtherAt rate class change flow event.now port.old.port next) }
     ensures port { port.new.port ≡ settled (answers_to event.now port.old.port).1 }
     ensures sound { IsSoundPort port.new.port }
@@ -169,7 +174,8 @@ fn is_apart_in<G: Gates, A: Allocator>(
     events: &[Event<'_>],
 ) -> bool
     requires { class < CLASSES }
-    ensures { IsTrue result ↔ IsKeptApart class (Events.Install command.entry ∷ events.now) port.old.port }
+    ensures { IsTrue result
+        ↔ IsKeptApart class (Events.Install command.entry ∷ events.now) port.old.port }
 {
     install_apart(port, class, command) && is_kept_apart(port, class, events)
 }
@@ -187,7 +193,8 @@ fn is_run_on<G: Gates, A: Allocator>(
     requires class { class < CLASSES }
     requires first { first.old.port ≡ new_port rate 1500 128 }
     requires second { second.old.port ≡ new_port rate 1500 128 }
-    ensures { IsTrue result ↔ IsRunOf rate 1500 128 class command.now flow (Events.Install command.entry ∷ events.now) }
+    ensures { IsTrue result
+        ↔ IsRunOf rate 1500 128 class command.now flow (Events.Install command.entry ∷ events.now) }
 {
     // For the prover: a call on a port says what holds of every port.
     let _now = first.now();
@@ -209,7 +216,10 @@ pub fn is_run(
     events: &[Event<'_>],
 ) -> Result<bool, PortFault>
     requires { class < CLASSES }
-    ensures premise { IfOk result (λ yes. IsTrue yes ↔ IsRunOf rate 1500 128 class command.now flow (Events.Install command.entry ∷ events.now)) }
+    ensures premise { IfOk result
+        (λ yes. IsTrue yes
+        ↔ IsRunOf rate 1500 128 class command.now flow
+        (Events.Install command.entry ∷ events.now)) }
     ensures refused { IfErr result (λ fault. fault ≡ PortFault.Memory) }
 {
     let mut first = match Port::<Stepped>::new(alloc, rate, 1500, 128) {
@@ -237,7 +247,9 @@ where
     requires class { class < CLASSES }
     requires some { 0 < length flows.now }
     requires flows { All IsFlow flows.now }
-    ensures { MatchResult result (λ b. IsWorth schedule.now class room flows.now (Ok b.bounds.items)) (λ why. IsWorth schedule.now class room flows.now (Err why)) }
+    ensures { MatchResult result
+        (λ b. IsWorth schedule.now class room flows.now (Ok b.bounds.items))
+        (λ why. IsWorth schedule.now class room flows.now (Err why)) }
 {
     answers();
     // For the prover: a call on a schedule says what holds of every schedule.

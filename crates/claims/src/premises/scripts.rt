@@ -20,9 +20,14 @@ pub fn answered(
     input: &[u8],
     output: &mut Vec<u8>,
 ) -> Result<(), RunFault>
-    ensures output { OnOk result ((read : List (List ℕ) → Result Command TcFault) → IsReader read → output.new.items ≡ output.old.items ++ (outcome_of read settings input.now).text) }
-    ensures run { (read : List (List ℕ) → Result Command TcFault) → IsReader read → RunsOut result (Some output.old.items) (Some output.new.items) (outcome_of read settings input.now) }
-    ensures faithful { (read : List (List ℕ) → Result Command TcFault) → IsFaithfulTo read settings input.now }
+    ensures output { OnOk result
+        ((read : List (List ℕ) → Result Command TcFault) → IsReader read →
+        output.new.items ≡ output.old.items ++ (outcome_of read settings input.now).text) }
+    ensures run { (read : List (List ℕ) → Result Command TcFault) → IsReader read →
+        RunsOut result (Some output.old.items) (Some output.new.items)
+        (outcome_of read settings input.now) }
+    ensures faithful { (read : List (List ℕ) → Result Command TcFault) →
+        IsFaithfulTo read settings input.now }
 {
     run_script(alloc, input, output, settings, &mut Unwatched)
 }

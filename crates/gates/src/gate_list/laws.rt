@@ -18,7 +18,8 @@ pub fn change_law()
 
 /// A class is kept apart just where every entry that opens it opens none of the other seven, masks being of eight bits.
 pub fn apart_law()
-    ensures { (entries : List Entry) (class : ℕ) → class < CLASSES → All (λ e. e.mask < 2 ^ CLASSES) entries → ApartLaw entries class }
+    ensures { (entries : List Entry) (class : ℕ) → class < CLASSES →
+        All (λ e. e.mask < 2 ^ CLASSES) entries → ApartLaw entries class }
 {}
 
 /// Of a schedule alone: a class stays open just as long as its stay.

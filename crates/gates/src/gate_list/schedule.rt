@@ -106,8 +106,12 @@ fn fault_of(
     rate: Rate,
 ) -> Option<PlanFault>
     requires { length entries.now ≤ MAX_ENTRIES }
-    ensures { let plan : Plan = record { entries = entries.now; base = base_ns; cycle = cycle_ns; extension = extension_ns } in
-        result ≡ plan_fault rate plan }
+    ensures { let plan : Plan = record {
+      entries = entries.now;
+      base = base_ns;
+      cycle = cycle_ns;
+      extension = extension_ns;
+    } in result ≡ plan_fault rate plan }
 {
     let least = least_ns(rate);
     match first_too_short(entries, least) {
@@ -144,8 +148,20 @@ fn put_plan(
     extension_ns: u64,
     schedule: &mut Schedule,
 )
-    requires { IsSchedule (record { entries = entries.now; base = base_ns; cycle = cycle_ns; extension = extension_ns }) }
-    ensures { schedule.new ≡ record { entries = entries.now; base = base_ns; cycle = cycle_ns; extension = extension_ns } }
+    requires { IsSchedule
+        (record {
+          entries = entries.now;
+          base = base_ns;
+          cycle = cycle_ns;
+          extension = extension_ns;
+        }) }
+    ensures { schedule.new
+        ≡ record {
+          entries = entries.now;
+          base = base_ns;
+          cycle = cycle_ns;
+          extension = extension_ns;
+        } }
 {
     put_entries(entries, &mut schedule.entries);
     schedule.base_ns = base_ns;
@@ -330,7 +346,8 @@ impl Schedule {
     pub fn row(&self, i: usize, visits: &mut Visits) -> Row
         requires { i < length self.now.entries }
         ensures entry { slice_get self.now.entries i ≡ Some result.entry }
-        ensures stays { prefix self.now.entries i < in_ps self.now.cycle → AreStays self.now i result.stay }
+        ensures stays { prefix self.now.entries i < in_ps self.now.cycle →
+            AreStays self.now i result.stay }
         ensures open { TellOpenTime self.now i result.stay }
         ensures unseen { in_ps self.now.cycle ≤ prefix self.now.entries i → AreClosed result.stay }
         ensures visit { visits.new ≡ one_more visits.old }
@@ -348,7 +365,8 @@ impl Schedule {
     pub fn stay(&self, i: usize, class: u8) -> Stay
         requires listed { i < length self.now.entries }
         requires class { class < CLASSES }
-        ensures stay { prefix self.now.entries i < in_ps self.now.cycle → result ≡ stay_from self.now i class }
+        ensures stay { prefix self.now.entries i < in_ps self.now.cycle →
+            result ≡ stay_from self.now i class }
         ensures open { TellsOpenTime self.now i class result }
         ensures unseen { in_ps self.now.cycle ≤ prefix self.now.entries i → result ≡ Lasts 0 }
     {
@@ -364,7 +382,10 @@ impl Schedule {
         requires some { 0 < for_ps }
         requires within { prefix self.now.entries i + past < in_ps self.now.cycle }
         requires shown { IsShownAt self.now.entries (prefix self.now.entries i + past) i }
-        ensures { (start k : ℕ) → result ≡ open_while (mask_since (Some self.now) start None) class (start + in_ps self.now.cycle * k + (prefix self.now.entries i + past)) for_ps }
+        ensures { (start k : ℕ) →
+            result
+            ≡ open_while (mask_since (Some self.now) start None) class
+            (start + in_ps self.now.cycle * k + (prefix self.now.entries i + past)) for_ps }
     {
         match self.stay(i, class) {
             Stay::Always => true,

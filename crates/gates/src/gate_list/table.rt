@@ -76,7 +76,8 @@ fn class_bits() -> [u8; CLASSES]
 fn common_mask(entries: &[Entry]) -> (u8, usize)
     requires few { length entries.now ≤ MAX_ENTRIES }
     ensures within { result.1 ≤ length entries.now }
-    ensures open { (class : ℕ) → class < CLASSES → opens result.0 class ≡ all_open (take result.1 entries.now) class }
+    ensures open { (class : ℕ) → class < CLASSES →
+        opens result.0 class ≡ all_open (take result.1 entries.now) class }
     ensures known { result.1 < length entries.now → result.0 ≡ 0 }
 {
     let mut open = 255;
@@ -124,8 +125,11 @@ fn put_row(
     requires bits { AreBits bits.now }
     requires after { IsRow rows.old (slot + 1) row.old }
     ensures kept { IsRow rows.new slot row.new }
-    ensures row { (class : ℕ) → class < CLASSES → closing_at rows.new slot class ≡ (if opens mask class then closing_at rows.old (slot + 1) class else slot) }
-    ensures others { (i class : ℕ) → class < CLASSES → i ≢ slot → closing_at rows.new i class ≡ closing_at rows.old i class }
+    ensures row { (class : ℕ) → class < CLASSES →
+        closing_at rows.new slot class
+        ≡ (if opens mask class then closing_at rows.old (slot + 1) class else slot) }
+    ensures others { (i class : ℕ) → class < CLASSES → i ≢ slot →
+        closing_at rows.new i class ≡ closing_at rows.old i class }
 {
     for class in 0..CLASSES {
         let is_open = mask & bits[class] != 0;
@@ -141,7 +145,9 @@ fn put_row(
 fn put_rows(entries: &[Entry], bits: &[u8; CLASSES], rows: &mut [u8; PLACES])
     requires few { length entries.now ≤ MAX_ENTRIES }
     requires bits { AreBits bits.now }
-    ensures rows { (class i : ℕ) → class < CLASSES → i ≤ length entries.now → closing_at rows.new i class ≡ next_shut (drop i entries.now) class i (closing_at rows.old (length entries.now) class) }
+    ensures rows { (class i : ℕ) → class < CLASSES → i ≤ length entries.now →
+        closing_at rows.new i class
+        ≡ next_shut (drop i entries.now) class i (closing_at rows.old (length entries.now) class) }
 {
     let bits = [
         bits[0], bits[1], bits[2], bits[3], bits[4], bits[5], bits[6], bits[7],
@@ -172,7 +178,8 @@ pub(crate) fn closed_table() -> Table
 #[inline(always)]
 fn put_first(slot: usize, rows: &mut [u8; PLACES])
     requires few { slot ≤ MAX_ENTRIES }
-    ensures { (class : ℕ) → class < CLASSES → closing_at rows.new slot class ≡ closing_at rows.old 0 class }
+    ensures { (class : ℕ) → class < CLASSES →
+        closing_at rows.new slot class ≡ closing_at rows.old 0 class }
 {
     for class in 0..CLASSES {
         rows[CLASSES * slot + class] = rows[class];
@@ -184,7 +191,8 @@ fn put_first(slot: usize, rows: &mut [u8; PLACES])
 fn put_closing(entries: &[Entry], rows: &mut [u8; PLACES]) -> u8
     requires few { length entries.now ≤ MAX_ENTRIES }
     ensures all { (class : ℕ) → class < CLASSES → opens result class ≡ all_open entries.now class }
-    ensures rows { (class : ℕ) → class < CLASSES → opens result class ≡ false → GoesRound entries.now class rows.new }
+    ensures rows { (class : ℕ) → class < CLASSES → opens result class ≡ false →
+        GoesRound entries.now class rows.new }
 {
     let bits = class_bits();
     let (always, count) = common_mask(entries);
@@ -229,7 +237,8 @@ fn copy_places(from: &[u8; PLACES], count: usize, rows: &mut [u8; PLACES])
 /// What a table says is written where another one is kept: of its places those that it uses.
 pub(crate) fn copy_table(from: &Table, table: &mut Table)
     requires { IsWithin from.now }
-    ensures stays { (class i : ℕ) → class < CLASSES → stay_at table.new class i ≡ stay_at from.now class i }
+    ensures stays { (class i : ℕ) → class < CLASSES →
+        stay_at table.new class i ≡ stay_at from.now class i }
     ensures within { IsWithin table.new }
 {
     table.shown = from.shown;
@@ -272,7 +281,8 @@ pub(crate) fn stay_at(table: &Table, class: usize, i: usize) -> Stay
 /// What the table has for each class at an entry.
 pub(crate) fn stays_at(table: &Table, i: usize) -> [Stay; CLASSES]
     requires { i < MAX_ENTRIES }
-    ensures { (class : ℕ) → class < CLASSES → slice_get result class ≡ Some (stay_at table.now class i) }
+    ensures { (class : ℕ) → class < CLASSES →
+        slice_get result class ≡ Some (stay_at table.now class i) }
 {
     let mut stays = [Stay::Always; CLASSES];
     for class in 0..CLASSES {

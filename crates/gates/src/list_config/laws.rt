@@ -10,7 +10,8 @@ pub fn kept_law()
 
 /// A new command may follow what is kept.
 pub fn append_law()
-    ensures { (e m : ℕ) (h : List Accepted) (x : Accepted) → IsRising e h → ArePast m h → announced h m ≡ None → e ≤ m → m < x.lead → IsSound x → AppendLaw e m h x }
+    ensures { (e m : ℕ) (h : List Accepted) (x : Accepted) → IsRising e h → ArePast m h →
+        announced h m ≡ None → e ≤ m → m < x.lead → IsSound x → AppendLaw e m h x }
 {}
 
 /// A command changes no gate before its lead moment.

@@ -56,14 +56,20 @@ pub fn find_choice<G: Gates>(
     requires later { G.moment gates.old < until }
     requires within { until ≤ greatest_moment }
     ensures sound { G.is_sound gates.new }
-    ensures idle { MovesIdle heads.now (G.history gates.old) (G.moment gates.old) (G.history gates.new) (G.moment gates.new) }
+    ensures idle { MovesIdle heads.now (G.history gates.old) (G.moment gates.old)
+        (G.history gates.new) (G.moment gates.new) }
     ensures upto { G.moment gates.new ≤ until }
     ensures before { OnSome result (G.moment gates.new < until) }
-    ensures choice { IfSome result (λ class. first_choice (G.history gates.old) (G.moment gates.new) heads.now ≡ Some class) }
-    ensures none { IfNone result ((until ≤ idle.new) × IsIdle (G.history gates.old) heads.now (G.moment gates.old) idle.new) }
+    ensures choice { IfSome result
+        (λ class. first_choice (G.history gates.old) (G.moment gates.new) heads.now ≡ Some class) }
+    ensures none { IfNone result
+        ((until ≤ idle.new)
+        × IsIdle (G.history gates.old) heads.now (G.moment gates.old) idle.new) }
     ensures counted { visits.old ≤ visits.new }
-    ensures visits { IsTrue G.JUMPS → visits.new ≤ visits.old + 14 * (longest (G.history gates.old) + 1) }
-    ensures fewer { IfNone result (IsTrue G.JUMPS → visits.new ≤ visits.old + 12 * (longest (G.history gates.old) + 1)) }
+    ensures visits { IsTrue G.JUMPS →
+        visits.new ≤ visits.old + 14 * (longest (G.history gates.old) + 1) }
+    ensures fewer { IfNone result
+        (IsTrue G.JUMPS → visits.new ≤ visits.old + 12 * (longest (G.history gates.old) + 1)) }
 {
     if heads.waits() == 0 {
         *idle = MAX_MOMENT;

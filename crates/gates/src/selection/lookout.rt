@@ -61,7 +61,8 @@ fn catch_up<G: Gates>(gates: &mut G, still: bool, t: u128, visits: &mut Visits) 
     ensures still { result ≡ true → IsStill (G.history gates.new) (G.moment gates.new) }
     ensures there { result ≡ false → G.moment gates.new ≡ t }
     ensures counted { visits.old ≤ visits.new }
-    ensures visits { IsTrue G.JUMPS → visits.new ≤ visits.old + 2 * (longest (G.history gates.old) + 1) }
+    ensures visits { IsTrue G.JUMPS →
+        visits.new ≤ visits.old + 2 * (longest (G.history gates.old) + 1) }
 {
     if still {
         return true;
@@ -109,7 +110,12 @@ impl<G: Gates> Lookout<G> {
     /// Gates with no command at the moment 0, and no frame that waits.
     pub fn new() -> Lookout<G>
         ensures current { IsCurrent result.history result.moment }
-        ensures value { result ≡ record { history = []; moment = 0; needs = None ∷ None ∷ None ∷ None ∷ None ∷ None ∷ None ∷ None ∷ [] } }
+        ensures value { result
+            ≡ record {
+              history = [];
+              moment = 0;
+              needs = None ∷ None ∷ None ∷ None ∷ None ∷ None ∷ None ∷ None ∷ [];
+            } }
     {
         Lookout {
             gates: G::begin(),
@@ -151,7 +157,10 @@ impl<G: Gates> Lookout<G> {
     pub fn add_need(&mut self, class: u8, need: u64)
         requires class { class < CLASSES }
         requires some { 0 < need }
-        ensures { self.new ≡ with_needs self.old (slice_set self.old.needs class (option_or (slice_index_or self.old.needs class None) (Some need))) }
+        ensures { self.new
+            ≡ with_needs self.old
+            (slice_set self.old.needs class
+            (option_or (slice_index_or self.old.needs class None) (Some need))) }
     {
         if !is_open(self.heads.waits(), class) {
             self.set_need(class, Some(need));
@@ -169,7 +178,8 @@ impl<G: Gates> Lookout<G> {
         ensures moment { result ≡ true → self.new.moment ≡ until }
         ensures history { result ≡ true → self.new.history ≡ kept self.old.history self.new.moment }
         ensures current { IsCurrent self.new.history self.new.moment }
-        ensures idle { result ≡ true → (m : ℕ) → self.old.moment ≤ m → free ≤ m → m < self.new.moment → first_choice self.old.history m self.old.needs ≡ None }
+        ensures idle { result ≡ true → (m : ℕ) → self.old.moment ≤ m → free ≤ m →
+            m < self.new.moment → first_choice self.old.history m self.old.needs ≡ None }
         ensures kept { result ≡ false → self.new ≡ self.old }
     {
         if !self.still {
@@ -196,12 +206,15 @@ impl<G: Gates> Lookout<G> {
         ensures onward { self.old.moment ≤ self.new.moment }
         ensures history { self.new.history ≡ kept self.old.history self.new.moment }
         ensures current { IsCurrent self.new.history self.new.moment }
-        ensures idle { (m : ℕ) → self.old.moment ≤ m → free ≤ m → m < self.new.moment → first_choice self.old.history m self.old.needs ≡ None }
+        ensures idle { (m : ℕ) → self.old.moment ≤ m → free ≤ m → m < self.new.moment →
+            first_choice self.old.history m self.old.needs ≡ None }
         ensures none { IfNone result (self.new.moment ≡ until) }
         ensures before { OnSome result ((free ≤ self.new.moment) × (self.new.moment < until)) }
-        ensures choice { IfSome result (λ class. first_choice self.old.history self.new.moment self.old.needs ≡ Some class) }
+        ensures choice { IfSome result
+            (λ class. first_choice self.old.history self.new.moment self.old.needs ≡ Some class) }
         ensures counted { visits.old ≤ visits.new }
-        ensures visits { IsTrue G.JUMPS → visits.new ≤ visits.old + 16 * (longest self.old.history + 1) }
+        ensures visits { IsTrue G.JUMPS →
+            visits.new ≤ visits.old + 16 * (longest self.old.history + 1) }
     {
         let from = free.max(self.idle);
         if until <= from {
@@ -229,11 +242,15 @@ impl<G: Gates> Lookout<G> {
     pub fn shown(&mut self, visits: &mut Visits) -> Shown
         ensures same { self.new ≡ self.old }
         ensures mask { result.mask ≡ gates self.old.history self.old.moment }
-        ensures in_force { result.in_force ≡ option_map installed_of (in_force self.old.history self.old.moment) }
-        ensures pending { result.pending ≡ option_map installed_of (pending self.old.history self.old.moment) }
-        ensures announced { result.announced ≡ option_map installed_of (announced self.old.history self.old.moment) }
+        ensures in_force { result.in_force
+            ≡ option_map installed_of (in_force self.old.history self.old.moment) }
+        ensures pending { result.pending
+            ≡ option_map installed_of (pending self.old.history self.old.moment) }
+        ensures announced { result.announced
+            ≡ option_map installed_of (announced self.old.history self.old.moment) }
         ensures counted { visits.old ≤ visits.new }
-        ensures visits { IsTrue G.JUMPS → visits.new ≤ visits.old + 2 * (longest self.old.history + 1) }
+        ensures visits { IsTrue G.JUMPS →
+            visits.new ≤ visits.old + 2 * (longest self.old.history + 1) }
     {
         self.gates.move_to(self.moment, visits);
         Shown {
@@ -250,7 +267,8 @@ impl<G: Gates> Lookout<G> {
         ensures same { self.new ≡ self.old }
         ensures busy { IsTrue result ↔ IsSome (announced self.old.history self.old.moment) }
         ensures counted { visits.old ≤ visits.new }
-        ensures visits { IsTrue G.JUMPS → visits.new ≤ visits.old + 2 * (longest self.old.history + 1) }
+        ensures visits { IsTrue G.JUMPS →
+            visits.new ≤ visits.old + 2 * (longest self.old.history + 1) }
     {
         self.gates.move_to(self.moment, visits);
         self.gates.announced().is_some()
@@ -268,11 +286,15 @@ impl<G: Gates> Lookout<G> {
         ensures current { IsCurrent self.new.history self.new.moment }
         ensures moment { self.new.moment ≡ self.old.moment }
         ensures needs { self.new.needs ≡ self.old.needs }
-        ensures answer { result ≡ answer_to self.old.history self.old.moment (accepted_at lead schedule.now) }
-        ensures history { self.new.history ≡ with_command self.old.history self.old.moment (accepted_at lead schedule.now) }
-        ensures hindsight { (n : ℕ) → n < lead → gates self.new.history n ≡ gates self.old.history n }
+        ensures answer { result
+            ≡ answer_to self.old.history self.old.moment (accepted_at lead schedule.now) }
+        ensures history { self.new.history
+            ≡ with_command self.old.history self.old.moment (accepted_at lead schedule.now) }
+        ensures hindsight { (n : ℕ) → n < lead →
+            gates self.new.history n ≡ gates self.old.history n }
         ensures counted { visits.old ≤ visits.new }
-        ensures visits { IsTrue G.JUMPS → visits.new ≤ visits.old + 2 * (longest self.old.history + 1) }
+        ensures visits { IsTrue G.JUMPS →
+            visits.new ≤ visits.old + 2 * (longest self.old.history + 1) }
     {
         self.gates.move_to(self.moment, visits);
         self.idle = self.moment;
@@ -289,10 +311,13 @@ impl<G: Gates> Lookout<G> {
         ensures moment { self.new.moment ≡ self.old.moment }
         ensures needs { self.new.needs ≡ self.old.needs }
         ensures answer { result ≡ answer_to self.old.history self.old.moment (deletion_at lead) }
-        ensures history { self.new.history ≡ with_command self.old.history self.old.moment (deletion_at lead) }
-        ensures hindsight { (n : ℕ) → n < lead → gates self.new.history n ≡ gates self.old.history n }
+        ensures history { self.new.history
+            ≡ with_command self.old.history self.old.moment (deletion_at lead) }
+        ensures hindsight { (n : ℕ) → n < lead →
+            gates self.new.history n ≡ gates self.old.history n }
         ensures counted { visits.old ≤ visits.new }
-        ensures visits { IsTrue G.JUMPS → visits.new ≤ visits.old + 2 * (longest self.old.history + 1) }
+        ensures visits { IsTrue G.JUMPS →
+            visits.new ≤ visits.old + 2 * (longest self.old.history + 1) }
     {
         self.gates.move_to(self.moment, visits);
         self.idle = self.moment;

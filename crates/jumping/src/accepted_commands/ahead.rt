@@ -92,7 +92,8 @@ fn leg_from_change<'a>(
     requires usable { IsUsable (accepted_in command.now) }
     requires first { IsFirst command.now }
     requires pending { ForSome (command_of pending) IsUsable }
-    ensures shows { stretch_of result ≡ stretch_under (Some (accepted_in command.now)) (command_of pending.entry) until }
+    ensures shows { stretch_of result
+        ≡ stretch_under (Some (accepted_in command.now)) (command_of pending.entry) until }
     ensures from { from_of result ≡ (accepted_in command.now).change }
     ensures until { until_of result ≡ until }
     ensures ready { IsReady result }
@@ -108,7 +109,8 @@ fn alone<'a>(in_force: Option<&'a AcceptedCommand>, moment: u128) -> Ahead<'a>
     requires usable { ForSome (command_of in_force) IsUsable }
     requires stands { Stands (command_of in_force) None moment (position_lent in_force) }
     requires near { moment ≤ 2 * greatest_moment }
-    ensures shows { stretches_ahead result.leg (rest_of result) ≡ stretches_from (command_of in_force.entry) [] }
+    ensures shows { stretches_ahead result.leg (rest_of result)
+        ≡ stretches_from (command_of in_force.entry) [] }
     ensures from { from_of result.leg ≡ moment }
     ensures ready { AreReady result.leg (rest_of result) }
 {
@@ -131,9 +133,11 @@ fn into_change<'a>(
     requires command { IsUsable (accepted_in command.now) }
     requires first { IsFirst command.now }
     requires held { held_from ≡ held_under (command_of in_force) (Some (accepted_in command.now)) }
-    requires stands { Stands (command_of in_force) (Some (accepted_in command.now)) moment (position_lent in_force) }
+    requires stands { Stands (command_of in_force) (Some (accepted_in command.now)) moment
+        (position_lent in_force) }
     requires near { moment ≤ (accepted_in command.now).change }
-    ensures shows { stretches_ahead result.leg (rest_of result) ≡ stretches_from (command_of in_force.entry) (accepted_in command.now ∷ []) }
+    ensures shows { stretches_ahead result.leg (rest_of result)
+        ≡ stretches_from (command_of in_force.entry) (accepted_in command.now ∷ []) }
     ensures from { from_of result.leg ≡ moment }
     ensures ready { AreReady result.leg (rest_of result) }
 {
@@ -165,10 +169,13 @@ fn through_change<'a>(
     requires announced { IsUsable (accepted_in announced.now) }
     requires last { IsFirst announced.now }
     requires held { held_from ≡ held_under (command_of in_force) (Some (accepted_in pending.now)) }
-    requires stands { Stands (command_of in_force) (Some (accepted_in pending.now)) moment (position_lent in_force) }
+    requires stands { Stands (command_of in_force) (Some (accepted_in pending.now)) moment
+        (position_lent in_force) }
     requires near { moment ≤ (accepted_in pending.now).change }
     requires timely { (accepted_in pending.now).change ≤ (accepted_in announced.now).lead }
-    ensures shows { stretches_ahead result.leg (rest_of result) ≡ stretches_from (command_of in_force.entry) (accepted_in pending.now ∷ accepted_in announced.now ∷ []) }
+    ensures shows { stretches_ahead result.leg (rest_of result)
+        ≡ stretches_from (command_of in_force.entry)
+        (accepted_in pending.now ∷ accepted_in announced.now ∷ []) }
     ensures from { from_of result.leg ≡ moment }
     ensures ready { AreReady result.leg (rest_of result) }
 {
@@ -202,12 +209,17 @@ fn through_lead<'a>(
     requires announced { IsUsable (accepted_in announced.now) }
     requires last { IsFirst announced.now }
     requires held { held_from ≡ held_under (command_of in_force) (Some (accepted_in pending.now)) }
-    requires next { held_next ≡ held_under (command_of in_force) (Some (accepted_in announced.now)) }
-    requires stands { Stands (command_of in_force) (Some (accepted_in pending.now)) moment (position_lent in_force) }
-    requires resumes { Stands (command_of in_force) (Some (accepted_in announced.now)) (accepted_in announced.now).lead resumed.now }
+    requires next { held_next
+        ≡ held_under (command_of in_force) (Some (accepted_in announced.now)) }
+    requires stands { Stands (command_of in_force) (Some (accepted_in pending.now)) moment
+        (position_lent in_force) }
+    requires resumes { Stands (command_of in_force) (Some (accepted_in announced.now))
+        (accepted_in announced.now).lead resumed.now }
     requires near { moment ≤ (accepted_in announced.now).lead }
     requires late { (accepted_in announced.now).lead < (accepted_in pending.now).change }
-    ensures shows { stretches_ahead result.leg (rest_of result) ≡ stretches_from (command_of in_force.entry) (accepted_in pending.now ∷ accepted_in announced.now ∷ []) }
+    ensures shows { stretches_ahead result.leg (rest_of result)
+        ≡ stretches_from (command_of in_force.entry)
+        (accepted_in pending.now ∷ accepted_in announced.now ∷ []) }
     ensures from { from_of result.leg ≡ moment }
     ensures ready { AreReady result.leg (rest_of result) }
 {
@@ -237,7 +249,8 @@ pub fn resumed(slots: &CommandSlots, visits: &mut Visits) -> Option<Position>
     requires { AreCommands slots.now.commands }
     ensures resumes { Resumes slots.now.commands result }
     ensures counted { visits.old ≤ visits.new }
-    ensures visits { visits.new ≤ visits.old + (entry_count (plan_of slots.now.commands.in_force) + 1) }
+    ensures visits { visits.new
+        ≤ visits.old + (entry_count (plan_of slots.now.commands.in_force) + 1) }
 {
     let pending = slots.pending()?;
     let announced = slots.announced()?;

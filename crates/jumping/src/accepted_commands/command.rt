@@ -39,7 +39,14 @@ impl AcceptedCommand {
         change: u128,
         position: &Position,
     )
-        ensures { self.new ≡ Install (record { lead = lead; change = change; schedule = schedule.now; position = position.now }) }
+        ensures { self.new
+            ≡ Install
+            (record {
+              lead = lead;
+              change = change;
+              schedule = schedule.now;
+              position = position.now;
+            }) }
     {
         match self {
             AcceptedCommand::Install(list) => list.put(schedule, lead, change, position),
@@ -118,7 +125,13 @@ pub fn installed(command: Option<&AcceptedCommand>) -> Option<Installed>
 impl AcceptedList {
     /// A list of these. The moments are in picoseconds.
     fn new(schedule: &Schedule, lead: u128, change: u128, position: &Position) -> AcceptedList
-        ensures { result ≡ record { lead = lead; change = change; schedule = schedule.now; position = position.now } }
+        ensures { result
+            ≡ record {
+              lead = lead;
+              change = change;
+              schedule = schedule.now;
+              position = position.now;
+            } }
     {
         AcceptedList {
             lead,
@@ -131,7 +144,13 @@ impl AcceptedList {
     /// These take the place of what the list has. Of the schedule what it uses is copied. The moments are in
     /// picoseconds.
     fn put(&mut self, schedule: &Schedule, lead: u128, change: u128, position: &Position)
-        ensures { self.new ≡ record { lead = lead; change = change; schedule = schedule.now; position = position.now } }
+        ensures { self.new
+            ≡ record {
+              lead = lead;
+              change = change;
+              schedule = schedule.now;
+              position = position.now;
+            } }
     {
         self.lead = lead;
         self.change = change;
@@ -146,7 +165,8 @@ impl AcceptedList {
         requires sound { IsSchedule self.now.schedule }
         requires start { self.now.change ≤ 2 * greatest_moment }
         requires usable { IsUsable (accepted_in command.now) }
-        ensures { hold_of (Some self.now.schedule) self.now.change (accepted_in command.now) ≡ Some result }
+        ensures { hold_of (Some self.now.schedule) self.now.change (accepted_in command.now)
+            ≡ Some result }
     {
         let extension = 1000 * u128::from(self.schedule.extension_ns());
         let from = command

@@ -44,8 +44,11 @@ pub fn lead_moment(command: Option<&AcceptedCommand>) -> Option<u128>
 #[inline(always)]
 fn until_boundary(slots: &CommandSlots) -> Option<u128>
     requires sound { AreCommands slots.now.commands }
-    ensures boundary { result ≡ boundary_in_force slots.now.commands.in_force slots.now.commands.pending slots.now.position }
-    ensures flat { (n : ℕ) → Stands slots.now.commands.in_force slots.now.commands.pending n slots.now.position → IsFlat (shows_under slots.now.commands.in_force slots.now.commands.pending) n result }
+    ensures boundary { result
+        ≡ boundary_in_force slots.now.commands.in_force slots.now.commands.pending slots.now.position }
+    ensures flat { (n : ℕ) →
+        Stands slots.now.commands.in_force slots.now.commands.pending n slots.now.position →
+        IsFlat (shows_under slots.now.commands.in_force slots.now.commands.pending) n result }
 {
     match list_in(slots.in_force()) {
         None => None,

@@ -102,11 +102,15 @@ impl<'a> ListedLeg<'a> {
         requires within { t ≤ 2 * greatest_moment }
         requires unheld { ForSome self.now.held_from (λ h. t < h) }
         requires unended { ForSome self.now.until (λ u. t < u) }
-        ensures ready { (from : ℕ) (position : Bor Position) (rest : Following) → from ≡ result.timer.started → position.now ≡ result → AreReady (Listed self.now) rest → AreReady (Listed (record self.now { from = from; position = position })) rest }
+        ensures ready { (from : ℕ) (position : Bor Position) (rest : Following) →
+            from ≡ result.timer.started → position.now ≡ result → AreReady (Listed self.now) rest →
+            AreReady (Listed (record self.now { from = from; position = position })) rest }
         ensures reached { result.timer.started ≤ t }
         ensures holds { t < result.timer.next_start }
-        ensures cycle { result.timer.next_start ≡ result.timer.started + in_ps self.now.schedule.now.cycle }
-        ensures onto { self.now.position.now.timer.next_start ≤ t → self.now.position.now.timer.next_start ≤ result.timer.started }
+        ensures cycle { result.timer.next_start
+            ≡ result.timer.started + in_ps self.now.schedule.now.cycle }
+        ensures onto { self.now.position.now.timer.next_start ≤ t →
+            self.now.position.now.timer.next_start ≤ result.timer.started }
         ensures index { result.walk.index ≡ 0 }
         ensures visit { visits.new ≡ one_more visits.old }
         ensures counted { visits.old ≤ visits.new }
@@ -143,7 +147,8 @@ impl Leg<'_> {
         requires at { need.from ≡ from_of self.now }
         requires class { need.class < CLASSES }
         requires within { need.length ≤ greatest_moment }
-        ensures { result ≡ open_while (mask_of (stretch_of self.now)) need.class need.from need.length }
+        ensures { result
+            ≡ open_while (mask_of (stretch_of self.now)) need.class need.from need.length }
     {
         match self {
             Leg::Listed(leg) => leg.position.stays_open(leg.schedule, leg.held_from, need),
@@ -159,7 +164,11 @@ impl Leg<'_> {
         requires at { need.from ≡ from_of self.now }
         requires class { need.class < CLASSES }
         requires within { need.length ≤ greatest_moment }
-        ensures { result ≡ open_while (mask_in (stretch_of self.now ∷ stretch_in (lent_leg next.entry))) need.class need.from need.length }
+        ensures { result
+            ≡ open_while
+            (mask_in
+            (stretch_of self.now ∷ stretch_in
+            (lent_leg next.entry))) need.class need.from need.length }
     {
         match next {
             None => self.stays_open(need),
@@ -176,7 +185,10 @@ impl Leg<'_> {
         requires at { need.from ≡ from_of self.now }
         requires class { need.class < CLASSES }
         requires within { need.length ≤ greatest_moment }
-        ensures { result ≡ open_while (mask_in (stretches_ahead self.now (lent_rest rest.now))) need.class need.from need.length }
+        ensures { result
+            ≡ open_while
+            (mask_in
+            (stretches_ahead self.now (lent_rest rest.now))) need.class need.from need.length }
     {
         match rest.next {
             None => self.stays_open(need),

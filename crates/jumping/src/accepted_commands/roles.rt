@@ -31,7 +31,11 @@ impl Model for Roles {
 
     ghost Value = { Kept };
 
-    ghost view = { λ r. record { in_force = kept_in r.places r.in_force; pending = kept_in r.places r.pending; announced = kept_in r.places r.announced } };
+    ghost view = { λ r. record {
+      in_force = kept_in r.places r.in_force;
+      pending = kept_in r.places r.pending;
+      announced = kept_in r.places r.announced;
+    } };
 
     ghost invariant = { λ r. AreApart r.in_force.place r.pending.place r.announced.place };
 }
@@ -125,7 +129,8 @@ impl Roles {
         requires within { t ≤ greatest_moment }
         ensures value { commands_at t self.new ≡ settled_at (commands_at t self.old) t }
         ensures kept { AreKept t self.new }
-        ensures next { IsTrue result → self.new ≡ record self.old { pending = self.old.announced; announced = None } }
+        ensures next { IsTrue result →
+            self.new ≡ record self.old { pending = self.old.announced; announced = None } }
     {
         let mut is_next = false;
         if let Some(announced) = self.announced() {
@@ -154,8 +159,10 @@ impl Roles {
     pub fn announce_list(&mut self, schedule: &Schedule, lead: u128, visits: &mut Visits) -> u128
         requires { lead ≤ greatest_moment + greatest_lead }
         ensures change { result ≡ (accepted_at lead schedule.now).change }
-        ensures value { option_map accepted_in self.new.announced ≡ Some (accepted_at lead schedule.now) }
-        ensures others { (self.new.in_force ≡ self.old.in_force) × (self.new.pending ≡ self.old.pending) }
+        ensures value { option_map accepted_in self.new.announced
+            ≡ Some (accepted_at lead schedule.now) }
+        ensures others { (self.new.in_force ≡ self.old.in_force)
+            × (self.new.pending ≡ self.old.pending) }
         ensures usable { IsUsable (accepted_at lead schedule.now) }
         ensures first { ForSome self.new.announced IsFirst }
         ensures sound { IsSchedule schedule.now }
@@ -173,7 +180,8 @@ impl Roles {
     /// Announces the deletion with this lead moment, in picoseconds.
     pub fn announce_deletion(&mut self, lead: u128)
         ensures value { option_map accepted_in self.new.announced ≡ Some (deletion_at lead) }
-        ensures others { (self.new.in_force ≡ self.old.in_force) × (self.new.pending ≡ self.old.pending) }
+        ensures others { (self.new.in_force ≡ self.old.in_force)
+            × (self.new.pending ≡ self.old.pending) }
         ensures first { ForSome self.new.announced IsFirst }
     {
         self.places[self.announced.place].put_deletion(lead);
@@ -184,13 +192,24 @@ impl Roles {
     pub fn go_on(&mut self, held_from: Option<u128>, t: u128, visits: &mut Visits)
         requires usable { ForSome (option_map accepted_in self.old.in_force) IsUsable }
         requires within { t ≤ 2 * greatest_moment }
-        requires stood { (n : ℕ) × (n ≤ t) × StandsHeld (option_map accepted_in self.old.in_force) held_from n (option_position self.old.in_force) }
-        ensures same { option_map accepted_in self.new.in_force ≡ option_map accepted_in self.old.in_force }
-        ensures others { (self.new.pending ≡ self.old.pending) × (self.new.announced ≡ self.old.announced) }
-        ensures stands { StandsHeld (option_map accepted_in self.old.in_force) held_from t (option_position self.new.in_force) }
+        requires stood { (n : ℕ) × (n ≤ t)
+            × StandsHeld (option_map accepted_in self.old.in_force) held_from n
+            (option_position self.old.in_force) }
+        ensures same { option_map accepted_in self.new.in_force
+            ≡ option_map accepted_in self.old.in_force }
+        ensures others { (self.new.pending ≡ self.old.pending)
+            × (self.new.announced ≡ self.old.announced) }
+        ensures stands { StandsHeld (option_map accepted_in self.old.in_force) held_from t
+            (option_position self.new.in_force) }
         ensures counted { visits.old ≤ visits.new }
-        ensures visits { visits.new ≤ visits.old + (entry_count (plan_of (option_map accepted_in self.old.in_force)) + 1) }
-        ensures next { (n e : ℕ) → StandsHeld (option_map accepted_in self.old.in_force) held_from n (option_position self.old.in_force) → BeginsAtMost (plan_of (option_map accepted_in self.old.in_force)) (start_of (option_map accepted_in self.old.in_force)) n t e → visits.new ≤ visits.old + 2 }
+        ensures visits { visits.new
+            ≤ visits.old + (entry_count (plan_of (option_map accepted_in self.old.in_force)) + 1) }
+        ensures next { (n e : ℕ) →
+            StandsHeld (option_map accepted_in self.old.in_force) held_from n
+            (option_position self.old.in_force) →
+            BeginsAtMost (plan_of (option_map accepted_in self.old.in_force))
+            (start_of (option_map accepted_in self.old.in_force)) n t e →
+            visits.new ≤ visits.old + 2 }
     {
         if self.in_force.is_taken {
             self.places[self.in_force.place].go_on(held_from, t, visits);
@@ -203,16 +222,29 @@ impl Roles {
     pub fn go_alone(&mut self, t: u128, visits: &mut Visits) -> (Option<u128>, u8)
         requires usable { ForSome (option_map accepted_in self.old.in_force) IsUsable }
         requires within { t ≤ 2 * greatest_moment }
-        requires stood { (n : ℕ) × (n ≤ t) × Stands (option_map accepted_in self.old.in_force) None n (option_position self.old.in_force) }
-        ensures same { option_map accepted_in self.new.in_force ≡ option_map accepted_in self.old.in_force }
-        ensures others { (self.new.pending ≡ self.old.pending) × (self.new.announced ≡ self.old.announced) }
-        ensures stands { Stands (option_map accepted_in self.old.in_force) None t (option_position self.new.in_force) }
-        ensures until { result.0 ≡ boundary_in_force (option_map accepted_in self.old.in_force) None (option_position self.new.in_force) }
+        requires stood { (n : ℕ) × (n ≤ t)
+            × Stands (option_map accepted_in self.old.in_force) None n
+            (option_position self.old.in_force) }
+        ensures same { option_map accepted_in self.new.in_force
+            ≡ option_map accepted_in self.old.in_force }
+        ensures others { (self.new.pending ≡ self.old.pending)
+            × (self.new.announced ≡ self.old.announced) }
+        ensures stands { Stands (option_map accepted_in self.old.in_force) None t
+            (option_position self.new.in_force) }
+        ensures until { result.0
+            ≡ boundary_in_force (option_map accepted_in self.old.in_force) None
+            (option_position self.new.in_force) }
         ensures later { ForSome result.0 (λ u. t < u) }
         ensures mask { result.1 ≡ shown_by (option_position self.new.in_force) }
         ensures counted { visits.old ≤ visits.new }
-        ensures visits { visits.new ≤ visits.old + (entry_count (plan_of (option_map accepted_in self.old.in_force)) + 1) }
-        ensures next { (n e : ℕ) → Stands (option_map accepted_in self.old.in_force) None n (option_position self.old.in_force) → BeginsAtMost (plan_of (option_map accepted_in self.old.in_force)) (start_of (option_map accepted_in self.old.in_force)) n t e → visits.new ≤ visits.old + 2 }
+        ensures visits { visits.new
+            ≤ visits.old + (entry_count (plan_of (option_map accepted_in self.old.in_force)) + 1) }
+        ensures next { (n e : ℕ) →
+            Stands (option_map accepted_in self.old.in_force) None n
+            (option_position self.old.in_force) →
+            BeginsAtMost (plan_of (option_map accepted_in self.old.in_force))
+            (start_of (option_map accepted_in self.old.in_force)) n t e →
+            visits.new ≤ visits.old + 2 }
     {
         if self.in_force.is_taken {
             self.places[self.in_force.place].go_alone(t, visits)
@@ -225,15 +257,21 @@ impl Roles {
     /// Both are in picoseconds.
     pub fn place_at(&mut self, held_from: Option<u128>, t: u128, visits: &mut Visits)
         requires usable { ForSome (option_map accepted_in self.old.in_force) IsUsable }
-        requires held { (next : Option Accepted) × (held_from ≡ held_under (option_map accepted_in self.old.in_force) next) }
-        requires ends { EndsSo (option_map accepted_in self.old.in_force) (option_position self.old.in_force) }
+        requires held { (next : Option Accepted)
+            × (held_from ≡ held_under (option_map accepted_in self.old.in_force) next) }
+        requires ends { EndsSo (option_map accepted_in self.old.in_force)
+            (option_position self.old.in_force) }
         requires begun { ForSome (option_map accepted_in self.old.in_force) (λ a. a.change ≤ t) }
         requires within { t ≤ 2 * greatest_moment }
-        ensures same { option_map accepted_in self.new.in_force ≡ option_map accepted_in self.old.in_force }
-        ensures others { (self.new.pending ≡ self.old.pending) × (self.new.announced ≡ self.old.announced) }
-        ensures stands { StandsHeld (option_map accepted_in self.old.in_force) held_from t (option_position self.new.in_force) }
+        ensures same { option_map accepted_in self.new.in_force
+            ≡ option_map accepted_in self.old.in_force }
+        ensures others { (self.new.pending ≡ self.old.pending)
+            × (self.new.announced ≡ self.old.announced) }
+        ensures stands { StandsHeld (option_map accepted_in self.old.in_force) held_from t
+            (option_position self.new.in_force) }
         ensures counted { visits.old ≤ visits.new }
-        ensures visits { visits.new ≤ visits.old + (entry_count (plan_of (option_map accepted_in self.old.in_force)) + 1) }
+        ensures visits { visits.new
+            ≤ visits.old + (entry_count (plan_of (option_map accepted_in self.old.in_force)) + 1) }
     {
         if self.in_force.is_taken {
             self.places[self.in_force.place].place_at(held_from, t, visits);

@@ -29,9 +29,18 @@ impl Model for CommandSlots {
 
     ghost Value = { Standing };
 
-    ghost view = { λ s. record { commands = commands_at s.moment s.roles; position = option_position s.roles.in_force } };
+    ghost view = { λ s. record {
+      commands = commands_at s.moment s.roles;
+      position = option_position s.roles.in_force;
+    } };
 
-    ghost invariant = { λ s. AreKept s.moment s.roles × (s.held_from ≡ held_under (option_map accepted_in s.roles.in_force) (option_map accepted_in s.roles.pending)) × (s.held_next ≡ held_under (option_map accepted_in s.roles.in_force) (option_map accepted_in s.roles.announced)) };
+    ghost invariant = { λ s. AreKept s.moment s.roles
+        × (s.held_from
+        ≡ held_under (option_map accepted_in s.roles.in_force)
+        (option_map accepted_in s.roles.pending))
+        × (s.held_next
+        ≡ held_under (option_map accepted_in s.roles.in_force)
+        (option_map accepted_in s.roles.announced)) };
 }
 
 /// Whether a command, if there is one, changes the gates after a moment, in picoseconds.
@@ -157,19 +166,26 @@ impl CommandSlots {
 
     /// Lets the list in force go on to now, from where it stood with the same change pending.
     fn go_on(&mut self, visits: &mut Visits)
-        requires stood { (n : ℕ) × (n ≤ self.old.commands.moment) × Stands self.old.commands.in_force self.old.commands.pending n self.old.position }
+        requires stood { (n : ℕ) × (n ≤ self.old.commands.moment)
+            × Stands self.old.commands.in_force self.old.commands.pending n self.old.position }
         ensures commands { self.new.commands ≡ self.old.commands }
         ensures stands { Stands self.new.commands.in_force self.new.commands.pending self.new.commands.moment self.new.position }
         ensures counted { visits.old ≤ visits.new }
-        ensures visits { visits.new ≤ visits.old + (entry_count (plan_of self.old.commands.in_force) + 1) }
-        ensures next { (n e : ℕ) → Stands self.old.commands.in_force self.old.commands.pending n self.old.position → BeginsAtMost (plan_of self.old.commands.in_force) (start_of self.old.commands.in_force) n self.old.commands.moment e → visits.new ≤ visits.old + 2 }
+        ensures visits { visits.new
+            ≤ visits.old + (entry_count (plan_of self.old.commands.in_force) + 1) }
+        ensures next { (n e : ℕ) →
+            Stands self.old.commands.in_force self.old.commands.pending n self.old.position →
+            BeginsAtMost (plan_of self.old.commands.in_force)
+            (start_of self.old.commands.in_force) n self.old.commands.moment e →
+            visits.new ≤ visits.old + 2 }
     {
         self.roles.go_on(self.held_from, self.moment, visits);
     }
 
     /// Whether no command is to come.
     pub fn is_alone(&self) -> bool
-        ensures { IsTrue result ↔ ((self.now.commands.pending ≡ None) × (self.now.commands.announced ≡ None)) }
+        ensures { IsTrue result
+            ↔ ((self.now.commands.pending ≡ None) × (self.now.commands.announced ≡ None)) }
     {
         self.pending().is_none() && self.announced().is_none()
     }
@@ -187,12 +203,16 @@ impl CommandSlots {
         ensures value { self.new.commands ≡ record self.old.commands { moment = t } }
         ensures stands { Stands self.old.commands.in_force None t self.new.position }
         ensures sound { AreCommands self.new.commands }
-        ensures until { result.0 ≡ boundary_in_force self.old.commands.in_force None self.new.position }
+        ensures until { result.0
+            ≡ boundary_in_force self.old.commands.in_force None self.new.position }
         ensures later { ForSome result.0 (λ u. t < u) }
         ensures mask { result.1 ≡ shown_by self.new.position }
         ensures counted { visits.old ≤ visits.new }
-        ensures visits { visits.new ≤ visits.old + (entry_count (plan_of self.old.commands.in_force) + 1) }
-        ensures next { (n e : ℕ) → Stands self.old.commands.in_force None n self.old.position → BeginsAtMost (plan_of self.old.commands.in_force) (start_of self.old.commands.in_force) n t e → visits.new ≤ visits.old + 2 }
+        ensures visits { visits.new
+            ≤ visits.old + (entry_count (plan_of self.old.commands.in_force) + 1) }
+        ensures next { (n e : ℕ) → Stands self.old.commands.in_force None n self.old.position →
+            BeginsAtMost (plan_of self.old.commands.in_force)
+            (start_of self.old.commands.in_force) n t e → visits.new ≤ visits.old + 2 }
     {
         self.moment = t;
         self.roles.go_alone(t, visits)
@@ -204,7 +224,8 @@ impl CommandSlots {
         ensures commands { self.new.commands ≡ self.old.commands }
         ensures stands { Stands self.new.commands.in_force self.new.commands.pending self.new.commands.moment self.new.position }
         ensures counted { visits.old ≤ visits.new }
-        ensures visits { visits.new ≤ visits.old + (entry_count (plan_of self.old.commands.in_force) + 1) }
+        ensures visits { visits.new
+            ≤ visits.old + (entry_count (plan_of self.old.commands.in_force) + 1) }
     {
         self.roles.place_at(self.held_from, self.moment, visits);
     }
@@ -221,8 +242,12 @@ impl CommandSlots {
         ensures stands { Stands self.new.commands.in_force self.new.commands.pending self.new.commands.moment self.new.position }
         ensures sound { AreCommands self.new.commands }
         ensures counted { visits.old ≤ visits.new }
-        ensures visits { visits.new ≤ visits.old + (entry_count (plan_of self.new.commands.in_force) + 1) }
-        ensures next { (e : ℕ) → NoneBy self.old.commands.pending self.old.commands.announced t → BeginsAtMost (plan_of self.old.commands.in_force) (start_of self.old.commands.in_force) self.old.commands.moment t e → visits.new ≤ visits.old + 2 }
+        ensures visits { visits.new
+            ≤ visits.old + (entry_count (plan_of self.new.commands.in_force) + 1) }
+        ensures next { (e : ℕ) → NoneBy self.old.commands.pending self.old.commands.announced t →
+            BeginsAtMost (plan_of self.old.commands.in_force)
+            (start_of self.old.commands.in_force) self.old.commands.moment t e →
+            visits.new ≤ visits.old + 2 }
     {
         // What holds of the slots is used below.
         let _ = &self.moment;
@@ -242,7 +267,8 @@ impl CommandSlots {
         requires ahead { self.old.commands.moment < lead }
         requires within { lead ≤ greatest_moment + greatest_lead }
         ensures change { result ≡ (accepted_at lead schedule.now).change }
-        ensures value { self.new.commands ≡ record self.old.commands { announced = Some (accepted_at lead schedule.now) } }
+        ensures value { self.new.commands
+            ≡ record self.old.commands { announced = Some (accepted_at lead schedule.now) } }
         ensures position { self.new.position ≡ self.old.position }
         ensures usable { IsUsable (accepted_at lead schedule.now) }
         ensures sound { AreCommands self.new.commands }
@@ -260,7 +286,8 @@ impl CommandSlots {
         requires free { self.old.commands.announced ≡ None }
         requires ahead { self.old.commands.moment < lead }
         requires within { lead ≤ greatest_moment + greatest_lead }
-        ensures value { self.new.commands ≡ record self.old.commands { announced = Some (deletion_at lead) } }
+        ensures value { self.new.commands
+            ≡ record self.old.commands { announced = Some (deletion_at lead) } }
         ensures position { self.new.position ≡ self.old.position }
         ensures sound { AreCommands self.new.commands }
     {

@@ -16,7 +16,9 @@ fn stays_open_alone(slots: &CommandSlots, need: Need) -> bool
     requires class { need.class < CLASSES }
     requires moment { need.from ≤ 2 * greatest_moment }
     requires within { need.length ≤ greatest_moment }
-    ensures { result ≡ open_while (shows_under slots.now.commands.in_force slots.now.commands.pending) need.class need.from need.length }
+    ensures { result
+        ≡ open_while
+        (shows_under slots.now.commands.in_force slots.now.commands.pending) need.class need.from need.length }
 {
     match list_in(slots.in_force()) {
         None => true,
@@ -44,7 +46,8 @@ fn stays_open_through(slots: &CommandSlots, resumed: &Option<Position>, need: Ne
 /// Whether a class that needs some time is shut now, by the mask that shows.
 fn is_shut_now(slots: &CommandSlots, need: Need) -> bool
     requires class { need.class < CLASSES }
-    ensures { result ≡ true → (0 < need.length) × (opens (shown_by slots.now.position) need.class ≡ false) }
+    ensures { result ≡ true →
+        (0 < need.length) × (opens (shown_by slots.now.position) need.class ≡ false) }
 {
     need.length != 0 && !is_open(mask_under(slots.in_force()), need.class)
 }

@@ -15,7 +15,8 @@ impl AcceptedList {
         requires sound { IsSchedule self.now.schedule }
         requires start { self.now.change ≤ 2 * greatest_moment }
         requires usable { ForSome (command_of pending) IsUsable }
-        ensures { result ≡ hold_for (Some self.now.schedule) self.now.change (command_of pending.entry) }
+        ensures { result
+            ≡ hold_for (Some self.now.schedule) self.now.change (command_of pending.entry) }
     {
         match pending {
             None => None,
@@ -33,7 +34,8 @@ impl AcceptedList {
     ) -> Position
         requires sound { IsSchedule self.now.schedule }
         requires start { self.now.change ≤ 2 * greatest_moment }
-        requires held { (next : Option Accepted) × (held_from ≡ hold_for (Some self.now.schedule) self.now.change next) }
+        requires held { (next : Option Accepted)
+            × (held_from ≡ hold_for (Some self.now.schedule) self.now.change next) }
         requires masked { self.now.position.last_mask ≡ last_mask self.now.schedule.entries }
         requires begun { self.now.change ≤ t }
         requires within { t ≤ 2 * greatest_moment }
@@ -56,7 +58,10 @@ impl AcceptedList {
         ensures placed { IsPlaced self.old.schedule self.old.change held_from t self.new.position }
         ensures counted { visits.old ≤ visits.new }
         ensures visits { visits.new ≤ visits.old + (length self.old.schedule.entries + 1) }
-        ensures next { (n e : ℕ) → IsPlaced self.old.schedule self.old.change held_from n self.old.position → BeginsAtMost (Some self.old.schedule) self.old.change n t e → visits.new ≤ visits.old + 2 }
+        ensures next { (n e : ℕ) →
+            IsPlaced self.old.schedule self.old.change held_from n self.old.position →
+            BeginsAtMost (Some self.old.schedule) self.old.change n t e →
+            visits.new ≤ visits.old + 2 }
     {
         self.position
             .go_on(&self.schedule, self.change, held_from, t, visits);
@@ -76,7 +81,10 @@ impl AcceptedList {
         ensures mask { result.1 ≡ walk_mask self.new.position.walk }
         ensures counted { visits.old ≤ visits.new }
         ensures visits { visits.new ≤ visits.old + (length self.old.schedule.entries + 1) }
-        ensures next { (n e : ℕ) → IsPlaced self.old.schedule self.old.change None n self.old.position → BeginsAtMost (Some self.old.schedule) self.old.change n t e → visits.new ≤ visits.old + 2 }
+        ensures next { (n e : ℕ) →
+            IsPlaced self.old.schedule self.old.change None n self.old.position →
+            BeginsAtMost (Some self.old.schedule) self.old.change n t e →
+            visits.new ≤ visits.old + 2 }
     {
         self.position
             .go_on(&self.schedule, self.change, None, t, visits);
@@ -90,12 +98,17 @@ impl AcceptedCommand {
     pub(crate) fn go_on(&mut self, held_from: Option<u128>, t: u128, visits: &mut Visits)
         requires usable { IsUsable (accepted_in self.old) }
         requires within { t ≤ 2 * greatest_moment }
-        requires stood { (n : ℕ) × (n ≤ t) × StandsHeld (Some (accepted_in self.old)) held_from n (position_in self.old) }
+        requires stood { (n : ℕ) × (n ≤ t)
+            × StandsHeld (Some (accepted_in self.old)) held_from n (position_in self.old) }
         ensures same { accepted_in self.new ≡ accepted_in self.old }
-        ensures stands { StandsHeld (Some (accepted_in self.old)) held_from t (position_in self.new) }
+        ensures stands { StandsHeld (Some (accepted_in self.old)) held_from t
+            (position_in self.new) }
         ensures counted { visits.old ≤ visits.new }
         ensures visits { visits.new ≤ visits.old + (entry_count (accepted_in self.old).plan + 1) }
-        ensures next { (n e : ℕ) → StandsHeld (Some (accepted_in self.old)) held_from n (position_in self.old) → BeginsAtMost (accepted_in self.old).plan (accepted_in self.old).change n t e → visits.new ≤ visits.old + 2 }
+        ensures next { (n e : ℕ) →
+            StandsHeld (Some (accepted_in self.old)) held_from n (position_in self.old) →
+            BeginsAtMost (accepted_in self.old).plan (accepted_in self.old).change n t e →
+            visits.new ≤ visits.old + 2 }
     {
         match self {
             AcceptedCommand::Install(list) => list.go_on(held_from, t, visits),
@@ -109,15 +122,20 @@ impl AcceptedCommand {
     pub(crate) fn go_alone(&mut self, t: u128, visits: &mut Visits) -> (Option<u128>, u8)
         requires usable { IsUsable (accepted_in self.old) }
         requires within { t ≤ 2 * greatest_moment }
-        requires stood { (n : ℕ) × (n ≤ t) × Stands (Some (accepted_in self.old)) None n (position_in self.old) }
+        requires stood { (n : ℕ) × (n ≤ t)
+            × Stands (Some (accepted_in self.old)) None n (position_in self.old) }
         ensures same { accepted_in self.new ≡ accepted_in self.old }
         ensures stands { Stands (Some (accepted_in self.old)) None t (position_in self.new) }
-        ensures until { result.0 ≡ boundary_in_force (Some (accepted_in self.old)) None (position_in self.new) }
+        ensures until { result.0
+            ≡ boundary_in_force (Some (accepted_in self.old)) None (position_in self.new) }
         ensures later { ForSome result.0 (λ u. t < u) }
         ensures mask { result.1 ≡ shown_by (position_in self.new) }
         ensures counted { visits.old ≤ visits.new }
         ensures visits { visits.new ≤ visits.old + (entry_count (accepted_in self.old).plan + 1) }
-        ensures next { (n e : ℕ) → Stands (Some (accepted_in self.old)) None n (position_in self.old) → BeginsAtMost (accepted_in self.old).plan (accepted_in self.old).change n t e → visits.new ≤ visits.old + 2 }
+        ensures next { (n e : ℕ) →
+            Stands (Some (accepted_in self.old)) None n (position_in self.old) →
+            BeginsAtMost (accepted_in self.old).plan (accepted_in self.old).change n t e →
+            visits.new ≤ visits.old + 2 }
     {
         match self {
             AcceptedCommand::Install(list) => list.go_alone(t, visits),
@@ -129,12 +147,14 @@ impl AcceptedCommand {
     /// on, if from any. Both are in picoseconds.
     pub(crate) fn place_at(&mut self, held_from: Option<u128>, t: u128, visits: &mut Visits)
         requires usable { IsUsable (accepted_in self.old) }
-        requires held { (next : Option Accepted) × (held_from ≡ held_under (Some (accepted_in self.old)) next) }
+        requires held { (next : Option Accepted)
+            × (held_from ≡ held_under (Some (accepted_in self.old)) next) }
         requires ends { EndsSo (Some (accepted_in self.old)) (position_in self.old) }
         requires begun { (accepted_in self.old).change ≤ t }
         requires within { t ≤ 2 * greatest_moment }
         ensures same { accepted_in self.new ≡ accepted_in self.old }
-        ensures stands { StandsHeld (Some (accepted_in self.old)) held_from t (position_in self.new) }
+        ensures stands { StandsHeld (Some (accepted_in self.old)) held_from t
+            (position_in self.new) }
         ensures counted { visits.old ≤ visits.new }
         ensures visits { visits.new ≤ visits.old + (entry_count (accepted_in self.old).plan + 1) }
     {

@@ -34,7 +34,8 @@ impl Model for Stepped {
 
     ghost view = { λ g. clocked g.slots };
 
-    ghost invariant = { λ g. AreCommands g.slots.commands × Stands g.slots.commands.in_force g.slots.commands.pending g.slots.commands.moment g.slots.position };
+    ghost invariant = { λ g. AreCommands g.slots.commands
+        × Stands g.slots.commands.in_force g.slots.commands.pending g.slots.commands.moment g.slots.position };
 }
 
 impl Stepped {

@@ -53,7 +53,8 @@ pub fn read_network<A: Allocator + Clone, B: Allocator, R: Read + Drop, H: Watch
     lines: &mut LineReader<R, B>,
     watch: &mut H,
 ) -> Result<Network<A>, NetworkRunFault>
-    ensures { IfSome (script_left R.remaining lines.old) (λ script. Reads result (network_of script)) }
+    ensures { IfSome (script_left R.remaining lines.old)
+        (λ script. Reads result (network_of script)) }
 {
     let Ok(mut network) = Network::new(alloc) else {
         return Err(Fault::Memory);

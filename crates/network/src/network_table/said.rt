@@ -91,7 +91,8 @@ fn room_in(word: &[u8]) -> Option<u32>
 
 /// The values with this rate, where none is among them yet.
 fn with_rate(values: PortValues, word: &[u8]) -> Result<PortValues, NetworkFault>
-    ensures { result ≡ once values.rate (rate_in word.now) (λ rate. record values { rate = Some rate }) }
+    ensures { result
+        ≡ once values.rate (rate_in word.now) (λ rate. record values { rate = Some rate }) }
 {
     match values.rate {
         Some(_) => Err(WORD_COUNT),
@@ -123,7 +124,8 @@ fn with_mtu(values: PortValues, word: &[u8]) -> Result<PortValues, NetworkFault>
 
 /// The values with this room, where none is among them yet.
 fn with_room(values: PortValues, word: &[u8]) -> Result<PortValues, NetworkFault>
-    ensures { result ≡ once values.room (room_in word.now) (λ room. record values { room = Some room }) }
+    ensures { result
+        ≡ once values.room (room_in word.now) (λ room. record values { room = Some room }) }
 {
     match values.room {
         Some(_) => Err(WORD_COUNT),

@@ -98,7 +98,8 @@ fn add_stream<A: Allocator>(
     begin: usize,
 ) -> Result<(), Fault<NetworkFault>>
     requires { begin ≤ length network.old.ways.items }
-    ensures { Takes {I = NetworkFault} result (Ok (stream_put number stream begin (seen network.old))) (seen network.new) }
+    ensures { Takes {I = NetworkFault} result
+        (Ok (stream_put number stream begin (seen network.old))) (seen network.new) }
 {
     let hops = network.ways.len() - begin;
     match network.streams.push(NetworkStream {
@@ -119,7 +120,9 @@ fn take_passing<A: Allocator>(
     stream: Stream,
     way: Words<'_>,
 ) -> Result<(), Fault<NetworkFault>>
-    ensures { Takes result (stream_taken number stream (Some (words_left way.entry)) (seen network.old)) (seen network.new) }
+    ensures { Takes result
+        (stream_taken number stream (Some (words_left way.entry)) (seen network.old))
+        (seen network.new) }
 {
     let begin = network.ways.len();
     match take_way(&mut network.names, &mut network.ways, way) {
@@ -142,7 +145,9 @@ fn take_with_way<A: Allocator>(
     stream: Stream,
     way: Words<'_>,
 ) -> Result<(), Fault<NetworkFault>>
-    ensures { Takes result (and_then (with_way stream (Some (words_left way.entry))) (taken number (seen network.old))) (seen network.new) }
+    ensures { Takes result
+        (and_then (with_way stream (Some (words_left way.entry))) (taken number (seen network.old)))
+        (seen network.new) }
 {
     if is_done(way) {
         return Err(Fault::Input(NetworkFault::Line(ScriptFault::WordCount)));
@@ -156,7 +161,10 @@ fn take_stream<A: Allocator>(
     number: u32,
     line: &[u8],
 ) -> Result<(), Fault<NetworkFault>>
-    ensures { Takes result (and_then (and_then (stream_said line.now) (λ s. with_way s (way_at (via_in line.now) line.now))) (taken number (seen network.old))) (seen network.new) }
+    ensures { Takes result
+        (and_then
+        (and_then (stream_said line.now) (λ s. with_way s (way_at (via_in line.now) line.now)))
+        (taken number (seen network.old))) (seen network.new) }
 {
     let via = via_in(line);
     let stream = match read_stream(front_at(via, line)) {
@@ -176,7 +184,9 @@ fn take_port_line<A: Allocator>(
     number: u32,
     words: Words<'_>,
 ) -> Result<(), Fault<NetworkFault>>
-    ensures { Takes result (and_then (and_then (port_said (words_left words.entry)) (λ said. Ok (OfPort said))) (taken number (seen network.old))) (seen network.new) }
+    ensures { Takes result
+        (and_then (and_then (port_said (words_left words.entry)) (λ said. Ok (OfPort said)))
+        (taken number (seen network.old))) (seen network.new) }
 {
     match read_port(words) {
         Ok(said) => take_port(network, number, &said),
@@ -190,7 +200,9 @@ fn take_link_line<A: Allocator>(
     number: u32,
     words: Words<'_>,
 ) -> Result<(), Fault<NetworkFault>>
-    ensures { Takes result (and_then (and_then (link_said (words_left words.entry)) (λ said. Ok (OfLink said))) (taken number (seen network.old))) (seen network.new) }
+    ensures { Takes result
+        (and_then (and_then (link_said (words_left words.entry)) (λ said. Ok (OfLink said)))
+        (taken number (seen network.old))) (seen network.new) }
 {
     match read_link(words) {
         Ok(said) => take_link(network, number, &said),
@@ -204,7 +216,10 @@ fn take_clocks_line<A: Allocator>(
     number: u32,
     words: Words<'_>,
 ) -> Result<(), Fault<NetworkFault>>
-    ensures { Takes result (and_then (and_then (clocks_said (words_left words.entry)) (λ difference. Ok (OfClocks difference))) (taken number (seen network.old))) (seen network.new) }
+    ensures { Takes result
+        (and_then
+        (and_then (clocks_said (words_left words.entry)) (λ difference. Ok (OfClocks difference)))
+        (taken number (seen network.old))) (seen network.new) }
 {
     match read_clocks(words) {
         Ok(difference) => take_clocks(network, number, difference),

@@ -59,7 +59,8 @@ pub(crate) fn front_at(via: Option<usize>, octets: &[u8]) -> &[u8]
 /// The words behind the word `via`, which stands at this place, if there is one.
 pub(crate) fn way_at(via: Option<usize>, octets: &[u8]) -> Option<Words<'_>>
     requires { IfSome via (λ place. place ≤ length octets.now) }
-    ensures { MatchOption result (way_at via octets.entry.now ≡ None) (λ words. way_at via octets.entry.now ≡ Some (words_left words)) }
+    ensures { MatchOption result (way_at via octets.entry.now ≡ None)
+        (λ words. way_at via octets.entry.now ≡ Some (words_left words)) }
 {
     let place = via?;
     let mut words = Words::new(&octets[place..]);

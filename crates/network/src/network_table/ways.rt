@@ -20,7 +20,8 @@ fn take_hop<A: Allocator>(
     word: &[u8],
 ) -> Result<(), Fault<NetworkFault>>
     requires { begin ≤ length ways.old.items }
-    ensures taken { Takes result (hop_taken begin (names.old.items, ways.old.items) word.now) (names.new.items, ways.new.items) }
+    ensures taken { Takes result (hop_taken begin (names.old.items, ways.old.items) word.now)
+        (names.new.items, ways.new.items) }
     ensures within { begin ≤ length ways.new.items }
 {
     let Some(name) = Name::new(word) else {
@@ -44,7 +45,9 @@ pub(crate) fn take_way<A: Allocator>(
     ways: &mut Vec<usize, A>,
     mut words: Words<'_>,
 ) -> Result<(), Fault<NetworkFault>>
-    ensures taken { Takes result (way_taken (length ways.old.items) (names.old.items, ways.old.items) (words_left words.entry)) (names.new.items, ways.new.items) }
+    ensures taken { Takes result
+        (way_taken (length ways.old.items) (names.old.items, ways.old.items)
+        (words_left words.entry)) (names.new.items, ways.new.items) }
     ensures within { length ways.old.items ≤ length ways.new.items }
 {
     let begin = ways.len();

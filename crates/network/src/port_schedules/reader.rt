@@ -28,9 +28,10 @@ pub fn read_schedules<A: Allocator, B: Allocator, C: Allocator, R: Read + Drop, 
     lines: &mut LineReader<R, C>,
     watch: &mut H,
 ) -> Result<(), SchedulesRunFault>
-    ensures { (read : List (List ℕ) → Result Command TcFault) → IsReader read
-        → IfSome (script_left R.remaining lines.old) (λ script.
-        Takes result (schedules_from read (seen network.now) kept.old.items script) kept.new.items) }
+    ensures { (read : List (List ℕ) → Result Command TcFault) → IsReader read →
+        IfSome (script_left R.remaining lines.old)
+        (λ script. Takes result
+        (schedules_from read (seen network.now) kept.old.items script) kept.new.items) }
 {
     'lines: loop {
         let more = match lines.advance() {

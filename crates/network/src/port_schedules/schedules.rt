@@ -84,7 +84,8 @@ fn put_change<A: Allocator, B: Allocator>(
     port: Option<usize>,
     change: Change,
 ) -> Result<(), Fault<SchedulesFault>>
-    ensures { Takes result (change_put number kept.old.items (seen network.now) change port) kept.new.items }
+    ensures { Takes result
+        (change_put number kept.old.items (seen network.now) change port) kept.new.items }
 {
     let Some(port) = port else {
         return Err(Fault::Input(SchedulesFault::UnknownPort));
@@ -112,10 +113,10 @@ fn put_command<A: Allocator, B: Allocator>(
     number: u32,
     line: &[u8],
 ) -> Result<(), Fault<SchedulesFault>>
-    ensures { (read : List (List ℕ) → Result Command TcFault) → IsReader read
-        → Takes result
-        (command_put number kept.old.items (seen network.now) (words_of line.now) (read (words_of line.now)))
-        kept.new.items }
+    ensures { (read : List (List ℕ) → Result Command TcFault) → IsReader read →
+        Takes result
+        (command_put number kept.old.items (seen network.now) (words_of line.now)
+        (read (words_of line.now))) kept.new.items }
 {
     let port = port_named(network, line);
     match read_tc(line) {
@@ -132,8 +133,9 @@ pub(crate) fn put_line<A: Allocator, B: Allocator>(
     number: u32,
     line: &[u8],
 ) -> Result<(), Fault<SchedulesFault>>
-    ensures { (read : List (List ℕ) → Result Command TcFault) → IsReader read
-        → Takes result (line_put read number (seen network.now) line.now kept.old.items) kept.new.items }
+    ensures { (read : List (List ℕ) → Result Command TcFault) → IsReader read →
+        Takes result
+        (line_put read number (seen network.now) line.now kept.old.items) kept.new.items }
 {
     let asks = match is_command(line, false) {
         Ok(asks) => asks,

@@ -141,7 +141,8 @@ pub(crate) struct UsualStartLine<'a> {
 
 impl Line for UsualStartLine<'_> {
     ghost text = { λ line. start_text line.start.now.id line.start.now.class
-        (decimal line.moments.now.front ++ line.moments.now.first) (decimal line.moments.now.front ++ line.moments.now.second) };
+        (decimal line.moments.now.front ++ line.moments.now.first)
+        (decimal line.moments.now.front ++ line.moments.now.second) };
 
     // As for most lines, without a call.
     #[inline(always)]

@@ -38,7 +38,8 @@ pub fn put_arrival<W: PutLine>(
     frame: &Frame,
     verdict: Result<u8, Dropped>,
 ) -> Result<(), WriteFault>
-    ensures { Writes result (W.contents writer.old) (W.contents writer.new) (answer_lines (arrival_answer frame.now verdict)) }
+    ensures { Writes result (W.contents writer.old) (W.contents writer.new)
+        (answer_lines (arrival_answer frame.now verdict)) }
 {
     match verdict {
         Ok(class) => put_queued(writer, frame.id, class),
@@ -47,7 +48,8 @@ pub fn put_arrival<W: PutLine>(
 }
 
 fn put_installed<W: PutLine>(writer: &mut W, change: u128) -> Result<(), WriteFault>
-    ensures { Writes result (W.contents writer.old) (W.contents writer.new) (installed_line change) }
+    ensures { Writes result (W.contents writer.old) (W.contents writer.new)
+        (installed_line change) }
 {
     writer.put_line(&InstalledLine { change })
 }
@@ -81,7 +83,8 @@ pub fn put_installation<W: PutLine>(
     writer: &mut W,
     answer: Result<u128, Refused>,
 ) -> Result<(), WriteFault>
-    ensures { Writes result (W.contents writer.old) (W.contents writer.new) (answer_lines (command_answer answer)) }
+    ensures { Writes result (W.contents writer.old) (W.contents writer.new)
+        (answer_lines (command_answer answer)) }
 {
     match answer {
         Ok(change) => put_installed(writer, change),
@@ -121,7 +124,8 @@ pub fn put_counters<W: PutLine>(
     class: u8,
     counters: &Counters,
 ) -> Result<(), WriteFault>
-    ensures { Writes result (W.contents writer.old) (W.contents writer.new) (count_line class counters.now) }
+    ensures { Writes result (W.contents writer.old) (W.contents writer.new)
+        (count_line class counters.now) }
 {
     writer.put_line(&SentText { class, counters })?;
     writer.put_line(&DroppedText { counters })?;
@@ -130,7 +134,8 @@ pub fn put_counters<W: PutLine>(
 
 /// Writes the lines of an answer. At a fault a prefix of them is written.
 pub fn put_answer<W: PutLine>(writer: &mut W, answer: &Answer) -> Result<(), WriteFault>
-    ensures { Writes result (W.contents writer.old) (W.contents writer.new) (answer_lines answer.now) }
+    ensures { Writes result (W.contents writer.old) (W.contents writer.new)
+        (answer_lines answer.now) }
 {
     match answer {
         Answer::Queued { id, class } => put_queued(writer, *id, *class),
@@ -147,7 +152,8 @@ pub fn put_answer<W: PutLine>(writer: &mut W, answer: &Answer) -> Result<(), Wri
 
 /// Writes the line that says how many frames a class still has at the end. At a fault a prefix of it is written.
 pub fn put_left<W: Write>(writer: &mut W, class: u8, frames: u64) -> Result<(), WriteFault>
-    ensures { Writes result (W.contents writer.old) (W.contents writer.new) (left_line class frames) }
+    ensures { Writes result (W.contents writer.old) (W.contents writer.new)
+        (left_line class frames) }
 {
     put_parts(
         writer,

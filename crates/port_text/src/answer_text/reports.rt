@@ -48,7 +48,8 @@ fn put_range<W: Write>(writer: &mut W, range: (u16, u16)) -> Result<(), WriteFau
 
 /// The range of each class.
 fn put_ranges<W: Write>(writer: &mut W, queues: &Queues) -> Result<(), WriteFault>
-    ensures { Writes result (W.contents writer.old) (W.contents writer.new) (ranges_text queues.now) }
+    ensures { Writes result (W.contents writer.old) (W.contents writer.new)
+        (ranges_text queues.now) }
 {
     for class in 0..queues.num_tc() {
         let Some(range) = queues.get(class) else {
@@ -60,7 +61,8 @@ fn put_ranges<W: Write>(writer: &mut W, queues: &Queues) -> Result<(), WriteFaul
 }
 
 fn put_num_tc<W: Write>(writer: &mut W, map: &ClassMap) -> Result<(), WriteFault>
-    ensures { Writes result (W.contents writer.old) (W.contents writer.new) (num_tc_text map.now.num_tc) }
+    ensures { Writes result (W.contents writer.old) (W.contents writer.new)
+        (num_tc_text map.now.num_tc) }
 {
     put_parts(
         writer,
@@ -77,7 +79,8 @@ fn put_map_and_ranges<W: Write>(
     map: &ClassMap,
     queues: &Queues,
 ) -> Result<(), WriteFault>
-    ensures { Writes result (W.contents writer.old) (W.contents writer.new) (map_and_ranges_line map.now queues.now) }
+    ensures { Writes result (W.contents writer.old) (W.contents writer.new)
+        (map_and_ranges_line map.now queues.now) }
 {
     put_num_tc(writer, map)?;
     put_map(writer, map)?;
@@ -90,7 +93,8 @@ fn put_classes<W: Write>(
     writer: &mut W,
     classes: &Option<(ClassMap, Queues)>,
 ) -> Result<(), WriteFault>
-    ensures { Writes result (W.contents writer.old) (W.contents writer.new) (classes_line classes.now) }
+    ensures { Writes result (W.contents writer.old) (W.contents writer.new)
+        (classes_line classes.now) }
 {
     match classes {
         Some((map, queues)) => put_map_and_ranges(writer, map, queues),
@@ -100,7 +104,8 @@ fn put_classes<W: Write>(
 
 /// All gates open from a change on.
 fn put_open<W: Write>(writer: &mut W, place: &[u8], change: u128) -> Result<(), WriteFault>
-    ensures { Writes result (W.contents writer.old) (W.contents writer.new) (open_text place.now change) }
+    ensures { Writes result (W.contents writer.old) (W.contents writer.new)
+        (open_text place.now change) }
 {
     put_parts(
         writer,
@@ -115,7 +120,8 @@ fn put_open<W: Write>(writer: &mut W, place: &[u8], change: u128) -> Result<(), 
 
 /// A list of entries from a change on.
 fn put_list<W: Write>(writer: &mut W, place: &[u8], installed: &Installed) -> Result<(), WriteFault>
-    ensures { Writes result (W.contents writer.old) (W.contents writer.new) (list_text place.now installed.now) }
+    ensures { Writes result (W.contents writer.old) (W.contents writer.new)
+        (list_text place.now installed.now) }
 {
     put_parts(
         writer,
@@ -141,7 +147,8 @@ fn put_installed<W: Write>(
     place: &[u8],
     installed: &Installed,
 ) -> Result<(), WriteFault>
-    ensures { Writes result (W.contents writer.old) (W.contents writer.new) (installed_text place.now installed.now) }
+    ensures { Writes result (W.contents writer.old) (W.contents writer.new)
+        (installed_text place.now installed.now) }
 {
     if installed.entries == 0 {
         put_open(writer, place, installed.change)
@@ -155,7 +162,8 @@ fn put_schedule<W: Write>(
     place: &[u8],
     schedule: &Option<Installed>,
 ) -> Result<(), WriteFault>
-    ensures { Writes result (W.contents writer.old) (W.contents writer.new) (schedule_line place.now schedule.now) }
+    ensures { Writes result (W.contents writer.old) (W.contents writer.new)
+        (schedule_line place.now schedule.now) }
 {
     match schedule {
         Some(installed) => put_installed(writer, place, installed),
@@ -169,7 +177,8 @@ fn put_schedule<W: Write>(
 /// Writes the five lines of a report: its moments in picoseconds, and the times of a list in nanoseconds. At a fault a
 /// prefix of them is written.
 pub fn put_report<W: PutLine>(writer: &mut W, report: &Report) -> Result<(), WriteFault>
-    ensures { Writes result (W.contents writer.old) (W.contents writer.new) (report_lines report.entry.now) }
+    ensures { Writes result (W.contents writer.old) (W.contents writer.new)
+        (report_lines report.entry.now) }
 {
     writer.put_line(&NowLine { report })?;
     put_classes(writer, &report.classes)?;

@@ -13,7 +13,8 @@ pub(crate) const SPAN_ROOM: usize = 85;
 /// picoseconds.
 pub(crate) fn put_span(first: u128, second: u128, line: &mut [u8], at: usize) -> usize
     requires { at + SPAN_ROOM ≤ length line.old }
-    ensures text { Placed line.old line.new at (decimal first ++ (codes " end " ++ decimal second)) result }
+    ensures text { Placed line.old line.new at
+        (decimal first ++ (codes " end " ++ decimal second)) result }
     ensures end { result ≤ at + SPAN_ROOM }
 {
     let middle = put_number(first, line, at);

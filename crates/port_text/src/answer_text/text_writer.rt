@@ -59,7 +59,8 @@ fn put_part<W: Write>(writer: &mut W, part: Part<'_>) -> Result<(), WriteFault>
 
 /// Writes parts by a call or more for each.
 fn put_each<W: Write>(writer: &mut W, parts: &[Part<'_>]) -> Result<(), WriteFault>
-    ensures { Writes result (W.contents writer.old) (W.contents writer.new) (flat_map text_of parts.now) }
+    ensures { Writes result (W.contents writer.old) (W.contents writer.new)
+        (flat_map text_of parts.now) }
 {
     for part in parts {
         put_part(writer, *part)?;
@@ -102,7 +103,8 @@ fn add_parts(line: &mut LineBuffer, parts: &[Part<'_>]) -> bool
 
 /// Writes parts, one after another. At a fault a prefix of their text is written.
 pub fn put_parts<W: Write>(writer: &mut W, parts: &[Part<'_>]) -> Result<(), WriteFault>
-    ensures { Writes result (W.contents writer.old) (W.contents writer.new) (flat_map text_of parts.now) }
+    ensures { Writes result (W.contents writer.old) (W.contents writer.new)
+        (flat_map text_of parts.now) }
 {
     let mut line = LineBuffer::new();
     if add_parts(&mut line, parts) {

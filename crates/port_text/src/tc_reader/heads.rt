@@ -19,7 +19,8 @@ pub struct Seen {
 
 /// One head of the line.
 fn take_head(seen: &mut Seen, words: &mut Words<'_>, word: &[u8]) -> Result<(), TcFault>
-    ensures head { HeadTakes seen.old word.now (words_left words.old) result seen.new (words_left words.new) }
+    ensures head { HeadTakes seen.old word.now (words_left words.old) result seen.new
+        (words_left words.new) }
     ensures moves { Moves words.old words.new }
 {
     if word == b"dev".as_slice() {
@@ -54,7 +55,9 @@ fn take_head(seen: &mut Seen, words: &mut Words<'_>, word: &[u8]) -> Result<(), 
 /// The heads of the words after the verb, and whether `taprio` ends them; else the line does.
 pub(crate) fn read_heads(words: &mut Words<'_>) -> Result<(Seen, bool), TcFault>
     ensures heads { MatchResult result
-        (λ s. (heads : List Head) × ReadsHeads [] (words_left words.old) heads (Ok (behind_heads s.1 (words_left words.new))) × (s.0 ≡ seen_of heads))
+        (λ s. (heads : List Head)
+        × ReadsHeads [] (words_left words.old) heads (Ok (behind_heads s.1 (words_left words.new)))
+        × (s.0 ≡ seen_of heads))
         (λ f. (heads : List Head) × ReadsHeads [] (words_left words.old) heads (Err f)) }
     ensures moves { Moves words.old words.new }
 {

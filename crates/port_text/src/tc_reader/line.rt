@@ -34,7 +34,8 @@ fn verb_of(word: &[u8]) -> Option<Verb>
 
 /// The first three words of a line.
 fn take_verb(words: &mut Words<'_>) -> Option<Verb>
-    ensures verb { MatchOption result (verb_at (words_left words.old) ≡ None) (λ v. verb_at (words_left words.old) ≡ Some (v, words_left words.new)) }
+    ensures verb { MatchOption result (verb_at (words_left words.old) ≡ None)
+        (λ v. verb_at (words_left words.old) ≡ Some (v, words_left words.new)) }
     ensures moves { Moves words.old words.new }
 {
     let first = words.next_word()?;
@@ -50,7 +51,8 @@ fn take_verb(words: &mut Words<'_>) -> Option<Verb>
 /// Goes past the heads of most lines, which name a device and `root`. Else false, and no word is taken.
 #[inline(always)]
 fn skip_usual_heads(words: &mut Words<'_>) -> bool
-    ensures heads { result ≡ true → (name : Word) × (words_left words.old ≡ usual_heads name (words_left words.new)) }
+    ensures heads { result ≡ true →
+        (name : Word) × (words_left words.old ≡ usual_heads name (words_left words.new)) }
     ensures moves { Moves words.old words.new }
     ensures kept { result ≡ false → words.new ≡ words.old }
 {
@@ -76,7 +78,8 @@ fn read_replacement(
     given: &mut CappedOptions,
     answer: &mut Result<Command, TcFault>,
 )
-    ensures { ReadsOptions (total words.entry) seen.dev seen.parent (words_left words.entry) answer.new }
+    ensures { ReadsOptions (total words.entry) seen.dev seen.parent
+        (words_left words.entry) answer.new }
 {
     given.clear();
     if let Err(fault) = read_options(words, given) {
@@ -95,7 +98,9 @@ fn read_replacement(
 
 /// A deletion, whose line ends after `taprio` or without it.
 fn read_deletion(words: Words<'_>, seen: Seen, named: bool, answer: &mut Result<Command, TcFault>)
-    ensures { answer.new ≡ deletion_before (total words.entry) seen.dev seen.parent (behind_heads named (words_left words.entry)) }
+    ensures { answer.new
+        ≡ deletion_before (total words.entry) seen.dev seen.parent
+        (behind_heads named (words_left words.entry)) }
 {
     let mut rest = words;
     let place = rest.place();
@@ -143,7 +148,8 @@ fn read_line(line: &[u8], given: &mut CappedOptions, answer: &mut Result<Command
 
 /// Reads a line as `read_command_into` does, into a place in two parts.
 fn read_into(line: &[u8], given: &mut CappedOptions, answer: &mut Result<Command, TcFault>)
-    ensures command { (command : Command) → (answer.new ≡ Ok command) ↔ IsCommand (words_of line.now) command }
+    ensures command { (command : Command) →
+        (answer.new ≡ Ok command) ↔ IsCommand (words_of line.now) command }
     ensures fault { IfErr answer.new (HasFault (words_of line.now)) }
 {
     read_line(line, given, answer);
@@ -155,7 +161,8 @@ fn read_into(line: &[u8], given: &mut CappedOptions, answer: &mut Result<Command
 /// Blanks are those of `Words`. Words are read from the left, and when all are read, what is missing is found, and then
 /// what the map, the ranges and the entries are refused for. A fault's place counts the words from 0.
 pub fn read_command_into(line: &[u8], place: &mut CommandPlace)
-    ensures command { (command : Command) → (place.new.answer ≡ Ok command) ↔ IsCommand (words_of line.now) command }
+    ensures command { (command : Command) →
+        (place.new.answer ≡ Ok command) ↔ IsCommand (words_of line.now) command }
     ensures fault { IfErr place.new.answer (HasFault (words_of line.now)) }
 {
     read_into(line, &mut place.given, &mut place.answer);
@@ -163,7 +170,8 @@ pub fn read_command_into(line: &[u8], place: &mut CommandPlace)
 
 /// The command that a line says, or its first fault, as `read_command_into` answers.
 pub fn read_command(line: &[u8]) -> Result<Command, TcFault>
-    ensures command { (command : Command) → (result ≡ Ok command) ↔ IsCommand (words_of line.now) command }
+    ensures command { (command : Command) →
+        (result ≡ Ok command) ↔ IsCommand (words_of line.now) command }
     ensures fault { IfErr result (HasFault (words_of line.now)) }
 {
     let mut given = CappedOptions::new();

@@ -39,7 +39,8 @@ pub trait ListValue: Copy + Default {
     /// nothing changes.
     fn front_value(words: &mut Words<'_>) -> Option<Self>
         ensures value { MatchOption result (words.new ≡ words.old)
-            (λ x. (w : List ℕ) × (words_left words.old ≡ w ∷ words_left words.new) × (form w ≡ true) × ((before : ℕ) → value before w ≡ Some x)) }
+            (λ x. (w : List ℕ) × (words_left words.old ≡ w ∷ words_left words.new) × (form w ≡ true)
+            × ((before : ℕ) → value before w ≡ Some x)) }
         ensures taken { IfSome result (λ _. words_taken words.new ≡ words_taken words.old + 1) };
 }
 
@@ -147,8 +148,10 @@ fn begins<T: ListValue>(words: &Words<'_>) -> bool
 fn take_next<T: ListValue>(words: &mut Words<'_>, first: usize) -> Result<T, TcFault>
     requires { first ≤ words_taken words.old }
     ensures value { MatchResult result
-        (λ x. value_at T.option (T.value (words_taken words.old - first)) (words_taken words.old) (words_left words.old) ≡ Ok (x, words_left words.new))
-        (λ f. value_at T.option (T.value (words_taken words.old - first)) (words_taken words.old) (words_left words.old) ≡ Err f) }
+        (λ x. value_at T.option (T.value (words_taken words.old - first)) (words_taken words.old)
+        (words_left words.old) ≡ Ok (x, words_left words.new))
+        (λ f. value_at T.option (T.value (words_taken words.old - first)) (words_taken words.old)
+        (words_left words.old) ≡ Err f) }
     ensures place { IfOk result (λ _. words_taken words.new ≡ words_taken words.old + 1) }
     ensures moves { Moves words.old words.new }
 {
@@ -166,7 +169,13 @@ fn take_next<T: ListValue>(words: &mut Words<'_>, first: usize) -> Result<T, TcF
 #[inline(always)]
 fn take_front_run<T: ListValue, const N: usize>(words: &mut Words<'_>, found: &mut ArrayVec<T, N>)
     requires { found.old.items ≡ [] }
-    ensures value { (first : ℕ) → (front : List T) × (found.new.items ≡ take N front) × (with_front front (run_at T.form (λ place. T.value (place - first)) (words_taken words.new) (words_left words.new)) ≡ run_at T.form (λ place. T.value (place - first)) (words_taken words.old) (words_left words.old)) }
+    ensures value { (first : ℕ) →
+        (front : List T) × (found.new.items ≡ take N front)
+        × (with_front front
+        (run_at T.form (λ place. T.value (place - first)) (words_taken words.new)
+        (words_left words.new))
+        ≡ run_at T.form (λ place. T.value (place - first)) (words_taken words.old)
+        (words_left words.old)) }
     ensures moves { Moves words.old words.new }
 {
     'values: while let Some(value) = T::front_value(words) {
@@ -176,8 +185,11 @@ fn take_front_run<T: ListValue, const N: usize>(words: &mut Words<'_>, found: &m
 
 fn take_run<T: ListValue, const N: usize>(words: &mut Words<'_>) -> Result<ArrayVec<T, N>, TcFault>
     ensures value { MatchResult result
-        (λ v. first_ones N (run_at T.form (λ place. T.value (place - words_taken words.old)) (words_taken words.old) (words_left words.old)) ≡ Ok (v.items, words_left words.new))
-        (λ f. run_at T.form (λ place. T.value (place - words_taken words.old)) (words_taken words.old) (words_left words.old) ≡ Err f) }
+        (λ v. first_ones N
+        (run_at T.form (λ place. T.value (place - words_taken words.old)) (words_taken words.old)
+        (words_left words.old)) ≡ Ok (v.items, words_left words.new))
+        (λ f. run_at T.form (λ place. T.value (place - words_taken words.old))
+        (words_taken words.old) (words_left words.old) ≡ Err f) }
     ensures moves { Moves words.old words.new }
 {
     let first = words.place();
@@ -199,8 +211,11 @@ pub(crate) fn take_list<T: ListValue, const N: usize>(
 ) -> Result<ArrayVec<T, N>, TcFault>
     requires { 0 < N }
     ensures value { MatchResult result
-        (λ v. first_ones N (some_at T.option T.form (λ place. T.value (place - words_taken words.old)) (words_taken words.old) (words_left words.old)) ≡ Ok (v.items, words_left words.new))
-        (λ f. some_at T.option T.form (λ place. T.value (place - words_taken words.old)) (words_taken words.old) (words_left words.old) ≡ Err f) }
+        (λ v. first_ones N
+        (some_at T.option T.form (λ place. T.value (place - words_taken words.old))
+        (words_taken words.old) (words_left words.old)) ≡ Ok (v.items, words_left words.new))
+        (λ f. some_at T.option T.form (λ place. T.value (place - words_taken words.old))
+        (words_taken words.old) (words_left words.old) ≡ Err f) }
     ensures moves { Moves words.old words.new }
 {
     let found = take_run(words)?;

@@ -33,7 +33,9 @@ fn take_option(
     word: &[u8],
 ) -> Result<(), TcFault>
     requires { words_taken words.old ≡ place + 1 }
-    ensures item { Takes (view given.old) (item_at (view given.old) place word.now (words_left words.old)) result (view given.new) (words_left words.new) }
+    ensures item { Takes (view given.old)
+        (item_at (view given.old) place word.now (words_left words.old)) result (view given.new)
+        (words_left words.new) }
     ensures moves { Moves words.old words.new }
 {
     let opt = allowed(given, place, option_named(word))?;
@@ -44,10 +46,13 @@ fn take_option(
 #[inline(always)]
 fn take_next(given: &mut CappedOptions, words: &mut Words<'_>) -> Result<bool, TcFault>
     ensures next { MatchResult result
-        (λ more. MatchBool more (TakesOne (view given.old) (words_taken words.old) (words_left words.old) (view given.new) (words_left words.new)) ((words_left words.old ≡ []) × (view given.new ≡ view given.old)))
+        (λ more. MatchBool more
+        (TakesOne (view given.old) (words_taken words.old) (words_left words.old) (view given.new)
+        (words_left words.new)) ((words_left words.old ≡ []) × (view given.new ≡ view given.old)))
         (λ f. FailsOne (view given.old) (words_taken words.old) (words_left words.old) f) }
     ensures moves { Moves words.old words.new }
-    ensures onward { IfOk result (λ more. more ≡ true → words_taken words.old < words_taken words.new) }
+    ensures onward { IfOk result
+        (λ more. more ≡ true → words_taken words.old < words_taken words.new) }
 {
     if let Some(entry) = take_plain_entry(words) {
         push_capped(&mut given.entries, entry);
@@ -64,7 +69,9 @@ fn take_next(given: &mut CappedOptions, words: &mut Words<'_>) -> Result<bool, T
 /// An entry that others come after, and that stands as in most lines. False where none does, and then nothing changes.
 #[inline(always)]
 fn take_entry_on(given: &mut CappedOptions, words: &mut Words<'_>) -> bool
-    ensures next { MatchBool result (TakesOne (view given.old) (words_taken words.old) (words_left words.old) (view given.new) (words_left words.new)) ((words.new ≡ words.old) × (view given.new ≡ view given.old)) }
+    ensures next { MatchBool result
+        (TakesOne (view given.old) (words_taken words.old) (words_left words.old) (view given.new)
+        (words_left words.new)) ((words.new ≡ words.old) × (view given.new ≡ view given.old)) }
     ensures moves { Moves words.old words.new }
     ensures onward { result ≡ true → words_taken words.old < words_taken words.new }
 {
@@ -79,7 +86,9 @@ fn take_entry_on(given: &mut CappedOptions, words: &mut Words<'_>) -> bool
 /// which the compiler keeps in registers.
 #[inline(always)]
 fn take_entries(given: &mut CappedOptions, words: &mut Words<'_>)
-    ensures read { (start : List Word) → SoFar (total words.old) start (words_left words.old) (view given.old) → SoFar (total words.old) start (words_left words.new) (view given.new) }
+    ensures read { (start : List Word) →
+        SoFar (total words.old) start (words_left words.old) (view given.old) →
+        SoFar (total words.old) start (words_left words.new) (view given.new) }
     ensures moves { Moves words.old words.new }
 {
     let mut after = *words;
@@ -92,8 +101,11 @@ fn take_entries(given: &mut CappedOptions, words: &mut Words<'_>)
 pub(crate) fn read_options(words: Words<'_>, given: &mut CappedOptions) -> Result<(), TcFault>
     requires { view given.old ≡ no_options }
     ensures { MatchResult result
-        (λ _. (items : List Item) × Reads no_options (total words.entry) (words_left words.entry) items None × (view given.new ≡ capped (given_by items)))
-        (λ f. (items : List Item) × Reads no_options (total words.entry) (words_left words.entry) items (Some f)) }
+        (λ _. (items : List Item)
+        × Reads no_options (total words.entry) (words_left words.entry) items None
+        × (view given.new ≡ capped (given_by items)))
+        (λ f. (items : List Item)
+        × Reads no_options (total words.entry) (words_left words.entry) items (Some f)) }
 {
     let mut rest = words;
     'options: while take_next(given, &mut rest)? {

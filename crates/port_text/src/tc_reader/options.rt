@@ -49,7 +49,9 @@ pub(crate) fn take_values(
     words: &mut Words<'_>,
     opt: Opt,
 ) -> Result<(), TcFault>
-    ensures value { Takes (view given.old) (values_at opt (words_taken words.old) (words_left words.old)) result (view given.new) (words_left words.new) }
+    ensures value { Takes (view given.old)
+        (values_at opt (words_taken words.old) (words_left words.old)) result (view given.new)
+        (words_left words.new) }
     ensures moves { Moves words.old words.new }
 {
     match opt {

@@ -25,8 +25,10 @@ fn after_0x(word: &[u8]) -> &[u8]
 #[tactic(auto, unfolding(crate::specs::Options::value_at))]
 pub(crate) fn take_number(words: &mut Words<'_>, opt: Opt, most: u64) -> Result<u64, TcFault>
     ensures value { MatchResult result
-        (λ n. value_at opt (number_in 10 most) (words_taken words.old) (words_left words.old) ≡ Ok (n, words_left words.new))
-        (λ f. value_at opt (number_in 10 most) (words_taken words.old) (words_left words.old) ≡ Err f) }
+        (λ n. value_at opt (number_in 10 most) (words_taken words.old) (words_left words.old)
+        ≡ Ok (n, words_left words.new))
+        (λ f. value_at opt (number_in 10 most) (words_taken words.old) (words_left words.old)
+        ≡ Err f) }
     ensures place { IfOk result (λ _. words_taken words.new ≡ words_taken words.old + 1) }
     ensures moves { Moves words.old words.new }
     ensures bound { IfOk result (λ n. n ≤ most) }
@@ -44,7 +46,8 @@ pub(crate) fn take_number(words: &mut Words<'_>, opt: Opt, most: u64) -> Result<
 #[tactic(auto, unfolding(crate::specs::Options::value_at))]
 fn take_hex(words: &mut Words<'_>, opt: Opt, most: u32) -> Result<u32, TcFault>
     ensures value { MatchResult result
-        (λ n. value_at opt (hex_in most) (words_taken words.old) (words_left words.old) ≡ Ok (n, words_left words.new))
+        (λ n. value_at opt (hex_in most) (words_taken words.old) (words_left words.old)
+        ≡ Ok (n, words_left words.new))
         (λ f. value_at opt (hex_in most) (words_taken words.old) (words_left words.old) ≡ Err f) }
     ensures place { IfOk result (λ _. words_taken words.new ≡ words_taken words.old + 1) }
     ensures moves { Moves words.old words.new }
@@ -62,7 +65,9 @@ fn take_hex(words: &mut Words<'_>, opt: Opt, most: u32) -> Result<u32, TcFault>
 
 #[tactic(auto, unfolding(crate::specs::Options::command_at))]
 fn take_command(words: &mut Words<'_>) -> Result<(), TcFault>
-    ensures value { MatchResult result (λ _. command_at (words_left words.old) ≡ Ok (words_left words.new)) (λ f. command_at (words_left words.old) ≡ Err f) }
+    ensures value { MatchResult result
+        (λ _. command_at (words_left words.old) ≡ Ok (words_left words.new))
+        (λ f. command_at (words_left words.old) ≡ Err f) }
     ensures place { IfOk result (λ _. words_taken words.new ≡ words_taken words.old + 1) }
     ensures moves { Moves words.old words.new }
 {
@@ -77,7 +82,8 @@ fn take_command(words: &mut Words<'_>) -> Result<(), TcFault>
 #[tactic(auto, unfolding(crate::specs::Options::entry_at))]
 pub(crate) fn take_entry(words: &mut Words<'_>) -> Result<Entry, TcFault>
     ensures value { MatchResult result
-        (λ e. entry_at (words_taken words.old) (words_left words.old) ≡ Ok (sched_entry e.mask e.interval, words_left words.new))
+        (λ e. entry_at (words_taken words.old) (words_left words.old)
+        ≡ Ok (sched_entry e.mask e.interval, words_left words.new))
         (λ f. entry_at (words_taken words.old) (words_left words.old) ≡ Err f) }
     ensures moves { Moves words.old words.new }
 {
@@ -90,7 +96,9 @@ pub(crate) fn take_entry(words: &mut Words<'_>) -> Result<Entry, TcFault>
 /// The next word as a mask, where it has two hexadecimal digits. Else None, and some words are taken or none.
 #[inline(always)]
 fn take_plain_mask(words: &mut Words<'_>) -> Option<u8>
-    ensures value { IfSome result (λ n. value_at Opt.SchedEntry (hex_in 255) (words_taken words.old) (words_left words.old) ≡ Ok (n, words_left words.new)) }
+    ensures value { IfSome result
+        (λ n. value_at Opt.SchedEntry (hex_in 255) (words_taken words.old) (words_left words.old)
+        ≡ Ok (n, words_left words.new)) }
     ensures place { IfSome result (λ _. words_taken words.new ≡ words_taken words.old + 1) }
     ensures moves { Moves words.old words.new }
 {
@@ -174,7 +182,8 @@ pub(crate) fn take_plain_entry(words: &mut Words<'_>) -> Option<Entry>
 #[tactic(auto, unfolding(crate::specs::Options::flags_at))]
 pub(crate) fn take_flags(words: &mut Words<'_>) -> Result<u32, TcFault>
     ensures value { MatchResult result
-        (λ n. flags_at (words_taken words.old) (words_left words.old) ≡ Ok (flags n, words_left words.new))
+        (λ n. flags_at (words_taken words.old) (words_left words.old)
+        ≡ Ok (flags n, words_left words.new))
         (λ f. flags_at (words_taken words.old) (words_left words.old) ≡ Err f) }
     ensures moves { Moves words.old words.new }
 {
@@ -203,8 +212,10 @@ fn is_clock(word: &[u8]) -> bool
 #[tactic(auto, unfolding(crate::specs::Options::value_at))]
 pub(crate) fn take_clock_name(words: &mut Words<'_>) -> Result<(), TcFault>
     ensures value { MatchResult result
-        (λ _. value_at Opt.Clockid clock_item (words_taken words.old) (words_left words.old) ≡ Ok (clock, words_left words.new))
-        (λ f. value_at Opt.Clockid clock_item (words_taken words.old) (words_left words.old) ≡ Err f) }
+        (λ _. value_at Opt.Clockid clock_item (words_taken words.old) (words_left words.old)
+        ≡ Ok (clock, words_left words.new))
+        (λ f. value_at Opt.Clockid clock_item (words_taken words.old) (words_left words.old)
+        ≡ Err f) }
     ensures moves { Moves words.old words.new }
 {
     let place = words.place();

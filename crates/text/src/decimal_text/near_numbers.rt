@@ -90,7 +90,8 @@ impl NearNumbers {
     fn go_on(&mut self, first: u128, second: u128) -> bool
         requires { first ≡ self.old.last }
         ensures first { result ≡ true → decimal first ≡ decimal self.new.front ++ self.new.first }
-        ensures second { result ≡ true → decimal second ≡ decimal self.new.front ++ self.new.second }
+        ensures second { result ≡ true →
+            decimal second ≡ decimal self.new.front ++ self.new.second }
     {
         let gone = second.wrapping_sub(first);
         if gone >= u128::from(EIGHT_DIGITS) {
@@ -111,7 +112,8 @@ impl NearNumbers {
     #[inline(always)]
     pub fn take(&mut self, first: u128, second: u128) -> bool
         ensures first { result ≡ true → decimal first ≡ decimal self.new.front ++ self.new.first }
-        ensures second { result ≡ true → decimal second ≡ decimal self.new.front ++ self.new.second }
+        ensures second { result ≡ true →
+            decimal second ≡ decimal self.new.front ++ self.new.second }
     {
         if !self.keep_near(first) && !self.keep(first) {
             return false;
@@ -128,7 +130,8 @@ impl NearNumbers {
     #[inline(always)]
     pub fn put_first(&self, line: &mut [u8], at: usize) -> usize
         requires { at + SHORT_ROOM ≤ length line.old }
-        ensures text { Placed line.old line.new at (decimal self.now.front ++ self.now.first) result }
+        ensures text { Placed line.old line.new at
+            (decimal self.now.front ++ self.now.first) result }
         ensures end { result ≤ at + SHORT_ROOM }
     {
         let middle = put_front(&self.octets, self.count, line, at);
@@ -139,7 +142,8 @@ impl NearNumbers {
     #[inline(always)]
     pub fn put_second(&self, line: &mut [u8], at: usize) -> usize
         requires { at + SHORT_ROOM ≤ length line.old }
-        ensures text { Placed line.old line.new at (decimal self.now.front ++ self.now.second) result }
+        ensures text { Placed line.old line.new at
+            (decimal self.now.front ++ self.now.second) result }
         ensures end { result ≤ at + SHORT_ROOM }
     {
         let middle = put_front(&self.octets, self.count, line, at);

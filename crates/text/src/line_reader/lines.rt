@@ -109,7 +109,8 @@ impl<R: Read + Drop, A: Allocator> LineReader<R, A> {
     pub fn new(alloc: A, reader: R) -> Result<LineReader<R, A>, AllocError>
     where
         A: Clone,
-        ensures left { IfOk result (λ r. script_left R.remaining r ≡ option_map script_of (R.remaining reader)) }
+        ensures left { IfOk result
+            (λ r. script_left R.remaining r ≡ option_map script_of (R.remaining reader)) }
         ensures open { IfOk result (λ r. how_ended r ≡ None) }
     {
         let line = Vec::with_capacity(alloc.clone()?, MAX_LINE_OCTETS)?;
@@ -186,12 +187,14 @@ impl<R: Read + Drop, A: Allocator> LineReader<R, A> {
         requires hand { octets ≤ length (hand self.old) }
         requires few { lines ≤ lines_left self.old }
         requires ended { lines ≤ octets }
-        ensures script { script_left R.remaining self.new ≡ script_past R.remaining self.old (drop octets (hand self.old)) lines }
+        ensures script { script_left R.remaining self.new
+            ≡ script_past R.remaining self.old (drop octets (hand self.old)) lines }
         ensures hand { hand self.new ≡ drop octets (hand self.old) }
         ensures fewer { most_lines self.new ≤ most_lines self.old }
         ensures passed { most_lines self.new + lines ≤ most_lines self.old }
         ensures left { lines_left self.new ≡ lines_left self.old - lines }
-        ensures stays { (current_line self.new ≡ current_line self.old) × (current_number self.new ≡ current_number self.old) }
+        ensures stays { (current_line self.new ≡ current_line self.old)
+            × (current_number self.new ≡ current_number self.old) }
         ensures over { how_ended self.new ≡ how_ended self.old }
     {
         self.breaks += lines;
@@ -224,7 +227,8 @@ impl<R: Read + Drop, A: Allocator> LineReader<R, A> {
         ensures ended { self.new.source.ended ≡ self.old.source.ended }
         ensures over { self.new.ended ≡ self.old.ended }
         ensures grows { vec_len self.old.line ≤ vec_len self.new.line }
-        ensures open { (0 < vec_len self.old.line → self.old.source.ended ≡ false) → 0 < vec_len self.new.line → self.new.source.ended ≡ false }
+        ensures open { (0 < vec_len self.old.line → self.old.source.ended ≡ false) →
+            0 < vec_len self.new.line → self.new.source.ended ≡ false }
     {
         if self.breaks == MAX_LINES {
             return;
@@ -237,8 +241,8 @@ impl<R: Read + Drop, A: Allocator> LineReader<R, A> {
 
     /// The next line, while the lines have not ended.
     fn next_line(&mut self) -> Result<bool, LineFault>
-        ensures line { Advances (script_ahead R.remaining self.old) result
-            (current_number self.new) (current_line self.new) (script_behind R.remaining result self.new) }
+        ensures line { Advances (script_ahead R.remaining self.old) result (current_number self.new)
+            (current_line self.new) (script_behind R.remaining result self.new) }
         ensures fewer { result ≡ Ok true → most_lines self.new < most_lines self.old }
         ensures hand { result ≡ Err ReadVariant → in_hand self.new ≡ [] }
         ensures at_end { result ≡ Ok false → IsAtEnd self.new }
@@ -278,9 +282,11 @@ impl<R: Read + Drop, A: Allocator> LineReader<R, A> {
         ensures line { Advances (script_left R.remaining self.old) result
             (current_number self.new) (current_line self.new) (script_left R.remaining self.new) }
         ensures fewer { result ≡ Ok true → most_lines self.new < most_lines self.old }
-        ensures over { IfSome (how_ended self.old) (λ ended. (result ≡ answer_of ended) × (self.new ≡ self.old)) }
+        ensures over { IfSome (how_ended self.old)
+            (λ ended. (result ≡ answer_of ended) × (self.new ≡ self.old)) }
         ensures ended { how_ended self.old ≡ None → how_ended self.new ≡ ended_by result }
-        ensures hand { how_ended self.old ≡ None → result ≡ Err ReadVariant → in_hand self.new ≡ [] }
+        ensures hand { how_ended self.old ≡ None → result ≡ Err ReadVariant →
+            in_hand self.new ≡ [] }
         ensures at_end { how_ended self.old ≡ None → result ≡ Ok false → IsAtEnd self.new }
     {
         if let Some(ended) = self.ended {

@@ -79,9 +79,11 @@ impl<R: Read + Drop, A: Allocator> Source<R, A> {
 
     /// The next octet, or None at the end, and from then on. It fails only where it has to read, with none in hand.
     pub(crate) fn next_octet(&mut self) -> Result<Option<u8>, ReadFault>
-        ensures octet { TakesOctet (octets_left R.remaining self.old) result (octets_left R.remaining self.new) }
+        ensures octet { TakesOctet (octets_left R.remaining self.old) result
+            (octets_left R.remaining self.new) }
         ensures none { result ≡ Ok None → self.new.ended ≡ true }
-        ensures some { IfOk result (λ o. IsSome o → (self.old.ended ≡ false) × (self.new.ended ≡ false)) }
+        ensures some { IfOk result
+            (λ o. IsSome o → (self.old.ended ≡ false) × (self.new.ended ≡ false)) }
         ensures over { self.old.ended ≡ true → self.new.ended ≡ true }
         ensures failed { OnErr result ((ahead self.new ≡ []) × (self.old.ended ≡ false)) }
     {

@@ -58,7 +58,8 @@ impl<W: Write + Drop, A: Allocator> BufWriter<W, A> {
         ensures empty { OnOk result (writer_buffer self.new ≡ []) }
         ensures room { OnOk result (self.new.held.filled ≡ 0) }
         ensures capacity { writer_capacity self.new ≡ writer_capacity self.old }
-        ensures bytes { Keeps (writer_contents W.contents self.old) (writer_contents W.contents self.new) }
+        ensures bytes { Keeps (writer_contents W.contents self.old)
+            (writer_contents W.contents self.new) }
     {
         let (written, result) = write_out(self.held.as_slice(), &mut self.inner);
         self.held.drop_front(written);
@@ -68,8 +69,11 @@ impl<W: Write + Drop, A: Allocator> BufWriter<W, A> {
     /// Keeps these octets back too, once what was is let out where there is no room.
     fn keep_back(&mut self, octets: &[u8]) -> io::Result<()>
         requires { length octets.now ≤ writer_capacity self.old }
-        ensures ok { OnOk result (Appends (writer_contents W.contents self.old) (writer_contents W.contents self.new) octets.now) }
-        ensures err { OnErr result (Keeps (writer_contents W.contents self.old) (writer_contents W.contents self.new)) }
+        ensures ok { OnOk result
+            (Appends (writer_contents W.contents self.old)
+            (writer_contents W.contents self.new) octets.now) }
+        ensures err { OnErr result
+            (Keeps (writer_contents W.contents self.old) (writer_contents W.contents self.new)) }
     {
         if octets.len() > self.held.room() {
             self.let_out()?;
@@ -83,7 +87,8 @@ impl<W: Write + Drop, A: Allocator> BufWriter<W, A> {
     #[inline(never)]
     fn write_apart(&mut self, octets: &[u8]) -> io::Result<usize>
         ensures bound { WritesAtMost result octets.now }
-        ensures bytes { WriteAppends (writer_contents W.contents self.old) (writer_contents W.contents self.new) result octets.now }
+        ensures bytes { WriteAppends (writer_contents W.contents self.old)
+            (writer_contents W.contents self.new) result octets.now }
     {
         if octets.len() >= self.held.capacity() {
             self.let_out()?;
@@ -107,7 +112,8 @@ impl<W: Write + Drop, A: Allocator> Write for BufWriter<W, A> {
     }
 
     fn flush(&mut self) -> io::Result<()>
-        ensures bytes { Keeps (writer_contents W.contents self.old) (writer_contents W.contents self.new) }
+        ensures bytes { Keeps (writer_contents W.contents self.old)
+            (writer_contents W.contents self.new) }
         ensures ok { OnOk result (writer_buffer self.new ≡ []) }
     {
         self.let_out()?;

@@ -64,7 +64,8 @@ fn headed_over(room: &mut [u8], head: &[u8; HEAD], rest: &[u8])
 #[inline(always)]
 fn headed_at(octets: &mut [u8], at: usize, head: &[u8; HEAD], rest: &[u8])
     requires { at + HEAD + length rest.now ≤ length octets.old }
-    ensures { take (at + HEAD + length rest.now) octets.new ≡ take at octets.old ++ (head.now ++ rest.now) }
+    ensures { take (at + HEAD + length rest.now) octets.new
+        ≡ take at octets.old ++ (head.now ++ rest.now) }
 {
     headed_over(&mut octets[at..at + HEAD + rest.len()], head, rest);
 }
@@ -106,7 +107,8 @@ impl<A: Allocator> Held<A> {
     #[inline(always)]
     pub(crate) fn append(&mut self, octets: &[u8])
         requires { self.old.filled + length octets.now ≤ vec_len self.old.octets }
-        ensures held { take self.new.filled self.new.octets.items ≡ take self.old.filled self.old.octets.items ++ octets.now }
+        ensures held { take self.new.filled self.new.octets.items
+            ≡ take self.old.filled self.old.octets.items ++ octets.now }
         ensures capacity { vec_len self.new.octets ≡ vec_len self.old.octets }
     {
         let end = self.filled + octets.len();
@@ -117,7 +119,9 @@ impl<A: Allocator> Held<A> {
     /// Holds a line too, where there is room for any line, and answers whether there is.
     #[inline(always)]
     pub(crate) fn append_line<L: Line>(&mut self, line: &L) -> bool
-        ensures held { result ≡ true → take self.new.filled self.new.octets.items ≡ take self.old.filled self.old.octets.items ++ L.text line.now }
+        ensures held { result ≡ true →
+            take self.new.filled self.new.octets.items
+            ≡ take self.old.filled self.old.octets.items ++ L.text line.now }
         ensures none { result ≡ false → self.new ≡ self.old }
     {
         if self.room() < LINE_ROOM {
@@ -132,7 +136,9 @@ impl<A: Allocator> Held<A> {
     /// Holds a head and what follows it too, where there is room for both, and answers whether there is.
     #[inline(always)]
     pub(crate) fn append_headed(&mut self, head: &[u8; HEAD], rest: &[u8]) -> bool
-        ensures held { result ≡ true → take self.new.filled self.new.octets.items ≡ take self.old.filled self.old.octets.items ++ (head.now ++ rest.now) }
+        ensures held { result ≡ true →
+            take self.new.filled self.new.octets.items
+            ≡ take self.old.filled self.old.octets.items ++ (head.now ++ rest.now) }
         ensures none { result ≡ false → self.new ≡ self.old }
     {
         let room = self.room();
@@ -148,7 +154,8 @@ impl<A: Allocator> Held<A> {
     /// Holds the first `count` octets no more.
     pub(crate) fn drop_front(&mut self, count: usize)
         requires { count ≤ self.old.filled }
-        ensures held { take self.new.filled self.new.octets.items ≡ drop count (take self.old.filled self.old.octets.items) }
+        ensures held { take self.new.filled self.new.octets.items
+            ≡ drop count (take self.old.filled self.old.octets.items) }
         ensures filled { self.new.filled + count ≡ self.old.filled }
         ensures capacity { vec_len self.new.octets ≡ vec_len self.old.octets }
     {

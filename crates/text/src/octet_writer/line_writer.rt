@@ -53,14 +53,16 @@ pub(crate) fn put_both<W: Write>(
 pub trait PutLine: Write {
     /// Writes a line. At a fault a prefix of it is written, and not all.
     fn put_line<L: Line>(&mut self, line: &L) -> Result<(), WriteFault>
-        ensures { Writes result (Self.contents self.old) (Self.contents self.new) (L.text line.now) }
+        ensures { Writes result (Self.contents self.old) (Self.contents self.new)
+            (L.text line.now) }
     {
         put_apart(self, line)
     }
 
     /// Writes a head of a fixed length, and then the rest. At a fault a prefix of both is written, and not all.
     fn put_headed(&mut self, head: &[u8; HEAD], rest: &[u8]) -> Result<(), WriteFault>
-        ensures { Writes result (Self.contents self.old) (Self.contents self.new) (head.now ++ rest.now) }
+        ensures { Writes result (Self.contents self.old) (Self.contents self.new)
+            (head.now ++ rest.now) }
     {
         put_both(self, head, rest)
     }

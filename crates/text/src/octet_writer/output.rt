@@ -9,7 +9,8 @@ use std::io::{Error, ErrorKind, Result, Write};
 /// One write, tried again where a signal interrupts it.
 fn write_once<W: Write>(writer: &mut W, octets: &[u8]) -> Result<usize>
     ensures bound { WritesAtMost result octets.now }
-    ensures ok { IfOk result (λ n. Appends (W.contents writer.old) (W.contents writer.new) (take n octets.now)) }
+    ensures ok { IfOk result
+        (λ n. Appends (W.contents writer.old) (W.contents writer.new) (take n octets.now)) }
     ensures err { OnErr result (Keeps (W.contents writer.old) (W.contents writer.new)) }
 {
     for _ in 0..u64::MAX {
@@ -29,7 +30,8 @@ fn write_once<W: Write>(writer: &mut W, octets: &[u8]) -> Result<usize>
 pub(crate) fn write_out<W: Write>(octets: &[u8], writer: &mut W) -> (usize, Result<()>)
     ensures bound { result.0 ≤ length octets.now }
     ensures all { OnOk result.1 (result.0 ≡ length octets.now) }
-    ensures bytes { Appends (W.contents writer.old) (W.contents writer.new) (take result.0 octets.now) }
+    ensures bytes { Appends (W.contents writer.old) (W.contents writer.new)
+        (take result.0 octets.now) }
 {
     let mut written = 0;
     while written < octets.len() {

@@ -52,7 +52,8 @@ fn word_on(octets: &[u8], place: usize) -> usize
     requires { starts_blank (drop place octets.now) ≡ false }
     ensures onward { place < result }
     ensures within { result ≤ length octets.now }
-    ensures word { word_length (drop place octets.now) + place ≡ result + word_length (drop result octets.now) }
+    ensures word { word_length (drop place octets.now) + place
+        ≡ result + word_length (drop result octets.now) }
 {
     let mut next = place + 1;
     while is_ordinary_at(octets, next) {
@@ -221,7 +222,8 @@ fn split_plain(octets: &[u8]) -> Option<(&[u8], &[u8])>
 /// and what comes after it.
 #[inline]
 fn split_number(octets: &[u8]) -> Option<(u128, &[u8])>
-    ensures first { IfSome result (λ x. FirstIsNumber (words_of octets.now) x.0 (words_of x.1.now)) }
+    ensures first { IfSome result
+        (λ x. FirstIsNumber (words_of octets.now) x.0 (words_of x.1.now)) }
     ensures less { IfSome result (λ x. length x.1.now < length octets.now) }
 {
     let rest = past_space(octets);
@@ -237,7 +239,8 @@ fn split_number(octets: &[u8]) -> Option<(u128, &[u8])>
 /// but spaces; and what comes after it.
 #[inline]
 fn split_short(octets: &[u8]) -> Option<(u64, &[u8])>
-    ensures first { IfSome result (λ x. FirstIsNumber (words_of octets.now) x.0 (words_of x.1.now)) }
+    ensures first { IfSome result
+        (λ x. FirstIsNumber (words_of octets.now) x.0 (words_of x.1.now)) }
     ensures less { IfSome result (λ x. length x.1.now < length octets.now) }
 {
     let rest = past_space(octets);
@@ -253,7 +256,8 @@ fn split_short(octets: &[u8]) -> Option<(u64, &[u8])>
 /// what comes after it. None where fewer than 16 octets are there.
 #[inline(always)]
 fn split_front(octets: &[u8]) -> Option<(u64, &[u8])>
-    ensures first { IfSome result (λ x. FirstIsNumber (words_of octets.now) x.0 (words_of x.1.now)) }
+    ensures first { IfSome result
+        (λ x. FirstIsNumber (words_of octets.now) x.0 (words_of x.1.now)) }
     ensures less { IfSome result (λ x. length x.1.now < length octets.now) }
     ensures bound { IfSome result (λ x. x.0 < 10 ^ 8) }
 {
@@ -268,7 +272,8 @@ fn split_front(octets: &[u8]) -> Option<(u64, &[u8])>
 /// after it; and what comes after it. None where fewer than 16 octets are there.
 #[inline(always)]
 fn split_few(octets: &[u8]) -> Option<(u64, &[u8])>
-    ensures first { IfSome result (λ x. FirstIsNumber (words_of octets.now) x.0 (words_of x.1.now)) }
+    ensures first { IfSome result
+        (λ x. FirstIsNumber (words_of octets.now) x.0 (words_of x.1.now)) }
     ensures less { IfSome result (λ x. length x.1.now < length octets.now) }
 {
     let (number, rest) = split_front(past_space(octets))?;
@@ -279,7 +284,9 @@ fn split_few(octets: &[u8]) -> Option<(u64, &[u8])>
 /// and what comes after it.
 #[inline(always)]
 fn split_digit(octets: &[u8]) -> Option<(u64, &[u8])>
-    ensures word { IfSome result (λ x. (word : List ℕ) × IsNumber word x.0 × (words_of octets.now ≡ word ∷ words_of x.1.now)) }
+    ensures word { IfSome result
+        (λ x. (word : List ℕ) × IsNumber word x.0
+        × (words_of octets.now ≡ word ∷ words_of x.1.now)) }
     ensures less { IfSome result (λ x. length x.1.now < length octets.now) }
     ensures bound { IfSome result (λ x. x.0 < 10) }
 {
@@ -367,7 +374,9 @@ impl<'a> Words<'a> {
     #[inline(always)]
     pub fn skip_text<const N: usize>(&mut self, text: &[u8; N], count: usize) -> bool
         requires { count ≤ length text.now }
-        ensures left { result ≡ true → (rest : List ℕ) × (words_left self.old ≡ words_of (text.now ++ rest)) × (words_left self.new ≡ words_of rest) }
+        ensures left { result ≡ true →
+            (rest : List ℕ) × (words_left self.old ≡ words_of (text.now ++ rest))
+            × (words_left self.new ≡ words_of rest) }
         ensures taken { result ≡ true → words_taken self.new ≡ words_taken self.old + count }
         ensures kept { result ≡ false → self.new ≡ self.old }
     {
@@ -382,7 +391,9 @@ impl<'a> Words<'a> {
     /// None, and nothing changes.
     #[inline(always)]
     pub fn next_hex_pair(&mut self) -> Option<(u8, u8)>
-        ensures word { IfSome result (λ pair. (word : List ℕ) × IsHexPair word pair.0 pair.1 × (words_left self.old ≡ word ∷ words_left self.new)) }
+        ensures word { IfSome result
+            (λ pair. (word : List ℕ) × IsHexPair word pair.0 pair.1
+            × (words_left self.old ≡ word ∷ words_left self.new)) }
         ensures bound { IfSome result (λ pair. (pair.0 < 16) × (pair.1 < 16)) }
         ensures taken { IfSome result (λ _. words_taken self.new ≡ words_taken self.old + 1) }
         ensures kept { result ≡ None → self.new ≡ self.old }
@@ -430,7 +441,9 @@ impl<'a> Words<'a> {
     /// it. Else None, and nothing changes.
     #[inline(always)]
     pub fn next_digit(&mut self) -> Option<u64>
-        ensures word { IfSome result (λ n. (word : List ℕ) × IsNumber word n × (words_left self.old ≡ word ∷ words_left self.new)) }
+        ensures word { IfSome result
+            (λ n. (word : List ℕ) × IsNumber word n
+            × (words_left self.old ≡ word ∷ words_left self.new)) }
         ensures bound { IfSome result (λ n. n < 10) }
         ensures taken { IfSome result (λ _. words_taken self.new ≡ words_taken self.old + 1) }
         ensures kept { result ≡ None → self.new ≡ self.old }
