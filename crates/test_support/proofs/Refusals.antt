@@ -15,8 +15,8 @@ use denote.Builtin.{bool}
 use denote.Steps.{nothing, only}
 use denote.Triple.Statement.{Contract}
 use denote.Triple.Spec.{triple_of}
-use Rattle.test_support.specs.refusing_heap.contracts.Count as CO
-use Rattle.test_support.specs.refusing_heap.contracts.refuses as RE
+use Rattle.test_support.specs.contracts.refusing_heap.Count as CO
+use Rattle.test_support.specs.contracts.refusing_heap.refuses as RE
 
 module _ {M : Type 1} {𝓤 : Ura M} (𝓛 : Logic 𝓤) (at_mem : Memory → SProp 𝓤) (run : Routine → Fun 𝓤) where
   abbrev pub Refuses : Contract 𝓤

@@ -40,9 +40,9 @@ use Rattle.std.proofs.alloc.Calls.{Al, α, seen, Answer, answer_val, Answer-type
 use Rattle.test_support.proofs.Refusals.{Refuses, at_refuses, Refuses-goes, Refuses-gives}
 use Rattle.test_support.proofs.refusing_heap.refuses.Symbol as c_sym
 use Rattle.test_support.proofs.refusing_heap.refuses.Met as c_met
-use Rattle.test_support.specs.refusing_heap.contracts.RefusingHeap as wrapper
-use Rattle.test_support.specs.refusing_heap.contracts.RefusingHeapAllocator.allocate as F
-use Rattle.test_support.specs.refusing_heap.contracts.RefusingHeapAllocator.allocate.Key as key
+use Rattle.test_support.specs.contracts.refusing_heap.RefusingHeap as wrapper
+use Rattle.test_support.specs.contracts.refusing_heap.RefusingHeapAllocator.allocate as F
+use Rattle.test_support.specs.contracts.refusing_heap.RefusingHeapAllocator.allocate.Key as key
 use Rattle.test_support.proofs.refusing_heap.RefusingHeapAllocator.allocate.Statement as stated
 use Rattle.test_support.proofs.refusing_heap.RefusingHeapAllocator.allocate.Code as code
 

@@ -38,9 +38,9 @@ use denote.RawPtr.{Ptr, block_ptr, null_ptr, ptr_val, rawptr_vals, rawptr_Tells}
 use denote.Builtin.{usize, RawPtr, RefOf}
 use denote.Triple.Call.{calls_at}
 use Rattle.std.proofs.alloc.Calls.{Al, α, seen, token, gives_key, Gives, at_gives, Gives-goes, Gives-Gives}
-use Rattle.test_support.specs.refusing_heap.contracts.RefusingHeap as wrapper
-use Rattle.test_support.specs.refusing_heap.contracts.RefusingHeapAllocator.deallocate as F
-use Rattle.test_support.specs.refusing_heap.contracts.RefusingHeapAllocator.deallocate.Key as key
+use Rattle.test_support.specs.contracts.refusing_heap.RefusingHeap as wrapper
+use Rattle.test_support.specs.contracts.refusing_heap.RefusingHeapAllocator.deallocate as F
+use Rattle.test_support.specs.contracts.refusing_heap.RefusingHeapAllocator.deallocate.Key as key
 use Rattle.test_support.proofs.refusing_heap.RefusingHeapAllocator.deallocate.Statement as stated
 use Rattle.test_support.proofs.refusing_heap.RefusingHeapAllocator.deallocate.Code as code
 
