@@ -8,7 +8,6 @@
 mod classes;
 mod faults;
 mod judge;
-mod kept;
 mod line;
 mod octets;
 mod plan_job;

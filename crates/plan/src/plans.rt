@@ -9,7 +9,6 @@ ghost use Rattle.script.specs.Setup.{Setup};
 use crate::classes::{Classes, classes_of, flows_of};
 use crate::faults::{PlanFault, PlanInput, table_fault};
 use crate::judge::{Judged, verdict_of};
-use crate::kept::KeptStreams;
 use crate::line::put_schedule;
 use crate::octets::read_octets;
 use crate::reasons::{Reason, put_reason, reason_of};
@@ -21,6 +20,7 @@ use crate::settings::PlanSettings;
 use script::Watch;
 use std::alloc::Global;
 use std::io::{Read, Write};
+use stream_bounds::PeriodicStreams;
 use text::line_reader::LineReader;
 use text::octet_writer::put;
 use traffic::{Stream, read_table};
@@ -311,7 +311,7 @@ fn plan_table<H: Watch>(
         Ok(lines) => lines,
         Err(_) => return Err(PlanFault::Memory),
     };
-    let mut streams = KeptStreams::new(alloc);
+    let mut streams = PeriodicStreams::new(alloc);
     match read_table(&mut lines, &mut streams, watch) {
         Ok(_) => plan_streams(alloc, settings, table, streams.as_slice()),
         Err(fault) => Err(table_fault(fault)),

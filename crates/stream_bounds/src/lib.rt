@@ -36,5 +36,6 @@ pub use settings::{BoundsSettings, BoundsValue, MAX_FRAMES};
 pub use shared::{Beside, sharing_answer};
 pub use standing::{Standing, standing_of};
 pub use stream_lines::needs_of;
+pub use table::PeriodicStreams;
 pub use table_bounds::bounds;
 pub use verdicts::{Met, Needs, Verdict, plus};
