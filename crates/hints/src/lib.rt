@@ -18,5 +18,6 @@ pub use fault_hints::put_fault_hint;
 pub use linux::put_linux;
 pub use warnings::{
     Ids, put_basis, put_busy_class, put_comment, put_end_without, put_frame_dropped,
-    put_frames_left, put_missed, put_no_command, put_no_frame, put_none_judged, put_shared_ids,
+    put_frames_left, put_missed, put_no_command, put_no_frame, put_none_judged, put_open_port,
+    put_shared_ids,
 };

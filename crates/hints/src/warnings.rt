@@ -225,6 +225,18 @@ pub fn put_basis<W: Write>(
     put_premise(writer, class, change, basis)
 }
 
+/// Writes that the port of this name has no schedule.
+pub fn put_open_port<W: Write>(writer: &mut W, name: &[u8]) -> Result<(), WriteFault> {
+    put_parts(
+        writer,
+        &[
+            Part::Text(b"taprio_port: note: port "),
+            Part::Text(name),
+            Part::Text(b" has no schedule: its gates are always open\n"),
+        ],
+    )
+}
+
 /// Writes when a frame of the stream with this first id would end at the latest, if no stream of its class came at any
 /// moments.
 pub fn put_end_without<W: Write>(writer: &mut W, id: u64, end: u128) -> Result<(), WriteFault> {

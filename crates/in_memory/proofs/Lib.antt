@@ -1,2 +1,3 @@
 mod BoundsLaws
+mod PathsLaws
 pub mod PictureLaws

@@ -1,5 +1,6 @@
 pub mod Bounds
 pub mod Captures
+pub mod Paths
 pub mod Pictures
 pub mod Slices
 pub mod Values

@@ -2,8 +2,8 @@
 
 ghost use Rattle.std.specs.Prelude.{◌≡◌, List, ℕ, Ok, Result};
 ghost use Rattle.abstract_port.specs.declared.Command.{Command};
-ghost use Rattle.in_memory.specs.Bounds.{AnswersBounds, classes_of, frames_at, bounds_settings_at};
-ghost use Rattle.in_memory.specs.Slices.{slices};
+ghost use Rattle.in_memory.specs.Bounds.{AnswersBounds, classes_of, frames_at, bounds_settings_at, refused_bounds};
+ghost use Rattle.in_memory.specs.Slices.{Answers, slices};
 ghost use Rattle.port_text.specs.Reader.{IsReader};
 ghost use Rattle.port_text.specs.declared.tc_reader.fault.TcFault.{TcFault};
 
@@ -63,7 +63,7 @@ fn classes_of(mask: u8) -> [bool; CLASSES]
 
 /// The settings of these values and of so many frames, which are not strict, with what is asked beside them. The first
 /// that is out of its limits is the fault.
-fn bounds_settings_at(
+pub(crate) fn bounds_settings_at(
     values: PortValues,
     frames: u64,
     asked: BoundsAsked,
@@ -86,6 +86,23 @@ fn bounds_settings_at(
             leftovers: asked.leftovers,
         }),
         None => Err(BoundsValue::Frames),
+    }
+}
+
+/// Ends a call with a bad value: nothing is answered.
+pub(crate) fn refuse_bounds(
+    alloc: Global,
+    value: BoundsValue,
+    output: &mut [u8],
+    fault: &mut [u8],
+) -> Ran
+    ensures { Answers (refused_bounds value) result (slices output.old fault.old)
+        (slices output.new fault.new) }
+{
+    match value {
+        BoundsValue::Port(value) => refuse_value(&alloc, value, output, fault),
+        BoundsValue::Frames => put_told(2, b"", BAD_FRAMES, output, fault),
+        BoundsValue::Silent => put_told(2, b"", BAD_SILENT, output, fault),
     }
 }
 
@@ -137,11 +154,8 @@ pub fn bounds_octets(
         AnswersBounds read (bounds_settings_at values frames asked) table.now schedules.now
         result (slices output.old fault.old) (slices output.new fault.new) }
 {
-    let settings = match bounds_settings_at(values, frames, asked) {
-        Ok(settings) => settings,
-        Err(BoundsValue::Port(value)) => return refuse_value(&alloc, value, output, fault),
-        Err(BoundsValue::Frames) => return put_told(2, b"", BAD_FRAMES, output, fault),
-        Err(BoundsValue::Silent) => return put_told(2, b"", BAD_SILENT, output, fault),
-    };
-    bounds_with(alloc, settings, table, schedules, output, fault)
+    match bounds_settings_at(values, frames, asked) {
+        Ok(settings) => bounds_with(alloc, settings, table, schedules, output, fault),
+        Err(value) => refuse_bounds(alloc, value, output, fault),
+    }
 }

@@ -6,12 +6,13 @@
 //! them is as it was. At 5 a slice has too little room, and at 4 out of memory: nothing is written then.
 //!
 //! The contract of each call cites the job's own definition of its output, by specs/Slices.antt,
-//! specs/Captures.antt, specs/Pictures.antt and specs/Bounds.antt.
+//! specs/Captures.antt, specs/Pictures.antt, specs/Bounds.antt and specs/Paths.antt.
 #![tactic(auto)]
 
 mod bounds;
 mod captures;
 mod checks;
+mod end_to_end;
 mod frames;
 mod jobs;
 mod pictures;
@@ -22,6 +23,7 @@ mod values;
 pub use bounds::{BoundsAsked, bounds_octets};
 pub use captures::{ReplayRan, replay_octets};
 pub use checks::check_octets;
+pub use end_to_end::paths_octets;
 pub use frames::{frames_by_stream_octets, frames_octets, frames_of_capture_octets};
 pub use jobs::Ran;
 pub use pictures::{PictureValues, draw_octets};

@@ -187,6 +187,8 @@ impl Watch for Seen {
 
     fn class_judged(&mut self, _number: u32, _class: u8, _change: &Change, _basis: Basis) {}
 
+    fn port_is_open(&mut self, _name: &[u8]) {}
+
     fn ends_without(&mut self, _first_id: u64, _end: u128) {}
 
     fn stream_read(&mut self, _number: u32, _first_id: u64, _count: u32, _has_deadline: bool) {}

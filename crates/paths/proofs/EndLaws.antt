@@ -193,7 +193,7 @@ module _ (s : BoundsSettings) (P Q : Outcome PathsInput → Type 0) (f : (o : Ou
     on_target net None w = f (failed Inputs.Next) w
     on_target net (Some target) w = on_schedules target net (schedules_from read net [] schedules) w
 
-    on_network : (next : Option (List ℕ)) (said : Result Net BadNetwork) → ByNetwork s P read schedules next said → ByNetwork s Q read schedules next said
+    pub on_network : (next : Option (List ℕ)) (said : Result Net BadNetwork) → ByNetwork s P read schedules next said → ByNetwork s Q read schedules next said
     on_network next (Ok net) w = on_target net (target_in net next) w
     on_network next (Err bad) w = f (failed (Inputs.Network bad)) w
 

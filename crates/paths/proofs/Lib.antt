@@ -1,4 +1,4 @@
-mod EndLaws
+pub mod EndLaws
 mod LineLaws
 mod PathLaws
 mod PortLaws

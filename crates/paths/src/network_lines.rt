@@ -22,7 +22,7 @@ use crate::port_lines::{put_cyclic, put_ports};
 use crate::ports::{MOST_NETWORK_PORTS, clocks_of, ports_of};
 use crate::ways::ways_of;
 use network::network_table::{Name, Network, read_network};
-use network::port_schedules::{PortSchedule, read_schedules};
+use network::port_schedules::{PortSchedule, read_schedules, schedule_at};
 use path_bounds::{Judgement, PathPort, judge_all, start_hops};
 use port_text::answer_text::WriteFault;
 use script::Watch;
@@ -166,6 +166,17 @@ fn target_in(network: &Network<Global>, next: Option<&str>) -> Option<Option<usi
     }
 }
 
+/// Tells of each port that has no schedule, where hints are wanted.
+fn tell_open<H: Watch>(names: &[Name], kept: &[PortSchedule], watch: &mut H) {
+    if watch.wants_hints() {
+        for (port, name) in names.iter().enumerate() {
+            if schedule_at(port, kept).is_none() {
+                watch.port_is_open(name.as_slice());
+            }
+        }
+    }
+}
+
 /// Reads the schedules of a network that are to come, and answers about them.
 fn answer_network<A: Allocator, S: Read + Drop, W: Write, H: Watch>(
     alloc: Global,
@@ -186,7 +197,10 @@ fn answer_network<A: Allocator, S: Read + Drop, W: Write, H: Watch>(
     };
     let mut kept = Vec::new(alloc);
     match read_schedules(&mut kept, network, schedules, watch) {
-        Ok(()) => answer_schedules(alloc, settings, target, network, kept.as_slice(), writer),
+        Ok(()) => {
+            tell_open(network.names.as_slice(), kept.as_slice(), watch);
+            answer_schedules(alloc, settings, target, network, kept.as_slice(), writer)
+        }
         Err(fault) => Err(schedules_fault(fault)),
     }
 }
@@ -221,7 +235,8 @@ fn answer_lines<A: Allocator, R: Read + Drop, S: Read + Drop, W: Write, H: Watch
 ///
 /// A malformed line of the network or of the schedules, or a schedule that a new port refuses, is the fault, and nothing
 /// is written. A strict run answers the same; its fault is the first finding. A read or a write that fails, or takes
-/// nothing, isn't tried again. Who watches is called for a line of either input that ends the run.
+/// nothing, isn't tried again. Who watches is called for a line of either input that ends the run, and where hints are wanted for each
+/// port without a schedule.
 pub fn paths<R: Read + Drop, S: Read + Drop, W: Write, H: Watch>(
     alloc: Global,
     network: R,

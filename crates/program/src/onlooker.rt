@@ -9,7 +9,7 @@ use arrayvec::ArrayVec;
 use hints::{
     put_basis, put_busy_class, put_comment, put_end_without, put_failure, put_fault_hint,
     put_frame_dropped, put_frames_left, put_linux, put_missed, put_no_command, put_no_frame,
-    put_none_judged, put_shared_ids,
+    put_none_judged, put_open_port, put_shared_ids,
 };
 use job::{CaptureKind, Ended, Errors, FaultKind};
 use script::{Basis, Failure, Missed, Watch, read_tc};
@@ -368,6 +368,14 @@ impl<C: Clock, P: Write + Drop, E: Write> Watch for Onlooker<'_, '_, C, P, E> {
         if self.comments < EXPLAINED {
             self.comments += 1;
             let _ = put_basis(self.errors, number, class, change, basis);
+            let _ = self.errors.flush();
+        }
+    }
+
+    fn port_is_open(&mut self, name: &[u8]) {
+        if self.comments < EXPLAINED {
+            self.comments += 1;
+            let _ = put_open_port(self.errors, name);
             let _ = self.errors.flush();
         }
     }

@@ -133,6 +133,10 @@ pub trait Watch {
     fn class_judged(&mut self, number: u32, class: u8, change: &Change, basis: Basis)
         ensures { alerted [] self.old self.new };
 
+    /// The port of this name, which is of a network, has no schedule: its gates are open.
+    fn port_is_open(&mut self, name: &[u8])
+        ensures { alerted [] self.old self.new };
+
     /// In its class without the streams whose frames come at any moments, a frame of the stream with this first id would
     /// end so long after its nominal moment at the latest, in picoseconds.
     fn ends_without(&mut self, first_id: u64, end: u128)
@@ -183,6 +187,8 @@ impl Watch for Unwatched {
     fn class_is_busy(&mut self, _number: u32, _class: u8, _every: u128) {}
 
     fn class_judged(&mut self, _number: u32, _class: u8, _change: &Change, _basis: Basis) {}
+
+    fn port_is_open(&mut self, _name: &[u8]) {}
 
     fn ends_without(&mut self, _first_id: u64, _end: u128) {}
 

@@ -16,6 +16,7 @@ ghost use Rattle.frame_table.specs.ByStream.{frames_by_stream};
 ghost use Rattle.frame_table.specs.OfCapture.{frames_of_capture};
 ghost use Rattle.frame_table.specs.Outcome.{frames_of};
 ghost use Rattle.in_memory.specs.Bounds.{AnswersBounds, bounds_settings_at};
+ghost use Rattle.in_memory.specs.Paths.{AnswersPaths};
 ghost use Rattle.in_memory.specs.Captures.{Replays, outputs, told_by_replay};
 ghost use Rattle.in_memory.specs.Pictures.{DrawsWith, options_at};
 ghost use Rattle.in_memory.specs.Slices.{Answers, slices, told_by, told_of};
@@ -41,7 +42,8 @@ use crate::values::{
 };
 use in_memory::{
     Ran, ReplayRan, bounds_octets, check_octets, draw_octets, frames_by_stream_octets,
-    frames_octets, frames_of_capture_octets, replay_octets, run_octets, streams_octets,
+    frames_octets, frames_of_capture_octets, paths_octets, replay_octets, run_octets,
+    streams_octets,
 };
 use replay::Stamp;
 use std::alloc::Global;
@@ -360,6 +362,38 @@ pub extern "C" fn taprio_bounds_asked(
         frames,
         asked_of(asked),
         table,
+        schedules,
+        output,
+        fault,
+    );
+}
+
+/// Answers how long the frames of a network's streams take from end to end, for ever, under the schedules of its ports; of
+/// what `asked` says silent classes and frames that wait from before the schedules count.
+#[unsafe(no_mangle)]
+pub extern "C" fn taprio_paths(
+    alloc: Global,
+    values: &CPortValues,
+    frames: u64,
+    asked: u32,
+    network: &[u8],
+    schedules: &[u8],
+    output: &mut [u8],
+    fault: &mut [u8],
+    ran: &mut Ran,
+)
+    ensures { (read : List (List ℕ) → Result Command TcFault) → IsReader read →
+        AnswersPaths read
+        (bounds_settings_at (port_values values.now) frames
+        (asked_of asked)) network.now schedules.now ran.new (slices output.old fault.old)
+        (slices output.new fault.new) }
+{
+    *ran = paths_octets(
+        alloc,
+        port_values(values),
+        frames,
+        asked_of(asked),
+        network,
         schedules,
         output,
         fault,
