@@ -44,12 +44,12 @@ number_within base most n word e = by_test (eqb (length word) 0) e
     by_test false g = at_most_within most n (value_behind base 0 word) g
 
 -- a stream whose priority and lengths are of their types
-record Small (s : Stream) : Type 0 where
-  priority : s.priority < 2 ^ 8
-  len : s.len < 2 ^ 32
-  lengths : s.shortest ≤ s.len
+pub record Small (s : Stream) : Type 0 where
+  pub priority : s.priority < 2 ^ 8
+  pub len : s.len < 2 ^ 32
+  pub lengths : s.shortest ≤ s.len
 
-abbrev IsSmall : Result Stream ScriptFault → Type 0
+abbrev pub IsSmall : Result Stream ScriptFault → Type 0
 IsSmall (Ok s) = Small s
 IsSmall (Err fault) = Unit {0}
 
@@ -100,7 +100,7 @@ words_small id priority len period offset count ends =
     (λ n e. omega (arith, number_within 10 (2 ^ 8 - 1) n priority e))
     (λ n e. omega (arith, number_within 10 (2 ^ 32 - 1) n len e))
 
-said_small : (ws : List (List ℕ)) → IsSmall (stream_said ws)
+pub said_small : (ws : List (List ℕ)) → IsSmall (stream_said ws)
 said_small [] = tt
 said_small (a ∷ []) = tt
 said_small (a ∷ b ∷ []) = tt

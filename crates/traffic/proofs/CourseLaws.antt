@@ -36,22 +36,30 @@ no_earlier c k =
     let after = le-max_left (reached_by c (k + 1)) (c.first + c.period * (k + 1) + late_by c (k + 1)) in
     omega (arith, one, after)
 
--- all come by the greatest moment
-by_end : (c : Course) (k : ℕ) → IsCourse c → k < c.count → c.first + c.period * k + late_by c k ≤ greatest_moment
-by_end c k is less =
-    let others : c.period * k ≤ c.period * (c.count - 1) = mul-le-mul_left c.period (omega (arith, less)) in
-    let late = late_drawn_within c.seed k c.jitter in
-    omega (arith, others, late, is.ends)
+-- all come by a moment by which the last one comes, however late it may be
+module _ (most : ℕ) (c : Course) (ends : c.first + c.jitter + c.period * (c.count - 1) ≤ most) where
+  by_end : (k : ℕ) → k < c.count → c.first + c.period * k + late_by c k ≤ most
+  by_end k less =
+      let others : c.period * k ≤ c.period * (c.count - 1) = mul-le-mul_left c.period (omega (arith, less)) in
+      let late = late_drawn_within c.seed k c.jitter in
+      omega (arith, others, late, ends)
 
+  reached_by_end : (k : ℕ) → k ≤ c.count → reached_by c k ≤ most
+  reached_by_end zero le = (let none = none_reached c in omega (arith, none))
+  reached_by_end (suc k) le =
+      let here = max-le (reached_by_end k (omega (arith, le))) (by_end k (omega (arith, le))) in
+      let one = one_reached c k in
+      omega (arith, one, here)
+
+  pub moment_by_end : (k : ℕ) → k < c.count → moment_after c k ≤ most
+  moment_by_end k less = max-le (reached_by_end k (omega (arith, less))) (by_end k less)
+
+-- so all come by the greatest moment
 pub reached_within : (c : Course) (k : ℕ) → IsCourse c → k ≤ c.count → reached_by c k ≤ greatest_moment
-reached_within c zero is le = (let none = none_reached c in omega (arith, none))
-reached_within c (suc k) is le =
-    let here = max-le (reached_within c k is (omega (arith, le))) (by_end c k is (omega (arith, le))) in
-    let one = one_reached c k in
-    omega (arith, one, here)
+reached_within c k is le = reached_by_end greatest_moment c is.ends k le
 
 pub moment_within : (c : Course) (k : ℕ) → IsCourse c → k < c.count → moment_after c k ≤ greatest_moment
-moment_within c k is less = max-le (reached_within c k is (omega (arith, less))) (by_end c k is less)
+moment_within c k is less = moment_by_end greatest_moment c is.ends k less
 
 -- where nothing is drawn each comes at its earliest moment
 never_late : (c : Course) (k : ℕ) → c.seed ≡ None → late_by c k ≡ 0

@@ -1,9 +1,9 @@
 mod AlertLaws
 mod BeforeLaws
-mod ComingLaws
+pub mod ComingLaws
 mod CountLaws
-mod CountedLaws
-mod CourseLaws
+pub mod CountedLaws
+pub mod CourseLaws
 mod FirstLaws
 mod FitLaws
 mod FrameLaws

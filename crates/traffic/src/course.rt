@@ -34,7 +34,7 @@ pub(crate) struct Course {
 
 /// A frame that is to come.
 #[derive(Clone, Copy)]
-pub(crate) struct Coming {
+pub struct Coming {
     /// When it comes, in picoseconds.
     pub moment: u128,
     /// The frame.

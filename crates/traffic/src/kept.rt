@@ -83,7 +83,7 @@ impl<A: Allocator> StreamTaker for KeptStreams<A> {
 }
 
 /// The streams of a table of which no frame has come.
-pub(crate) fn turns_of<A: Allocator>(
+pub fn turns_of<A: Allocator>(
     alloc: A,
     plan: &Plan,
     streams: &[Stream],

@@ -24,10 +24,15 @@ mod tournament;
 mod turn;
 mod turns;
 
+pub use course::Coming;
 pub use faults::{StreamsFault, StreamsInput, table_fault};
 pub use frame_count::FrameCount;
-pub use plan::{Plan, Timing};
+pub use kept::turns_of;
+pub use plan::{Plan, Timing, greatest_offset};
 pub use streams::write_streams;
 pub use streams_job::{StreamsWords, answer_streams, plan_given};
 pub use table::{Stream, earliest, has_ids, read_stream_line, tell_stream};
 pub use table_reader::{StreamTaker, Untaken, read_table};
+pub use tournament::{Node, tournament as tournament_of};
+pub use turn::Turn;
+pub use turns::next_frame;

@@ -46,7 +46,7 @@ impl Plan {
 }
 
 /// The greatest offset that a stream may have, in picoseconds.
-fn greatest_offset(timing: Timing, stream: &Stream) -> u128
+pub fn greatest_offset(timing: Timing, stream: &Stream) -> u128
     requires { IsSaid stream.now }
     ensures offset { result ≡ greatest_offset timing stream.now }
     ensures within { result ≤ greatest_moment }

@@ -26,7 +26,7 @@ const NEVER: u128 = u128::MAX;
 /// A stream, if it has a next frame: its moment and its place in one number, whose order is that of moments, and at one
 /// moment that of places.
 #[derive(Clone, Copy)]
-pub(crate) struct Node {
+pub struct Node {
     key: u128,
 }
 
@@ -154,7 +154,7 @@ fn put_inner(nodes: &mut [Node], streams: usize)
 }
 
 /// The tournament of streams; of more streams than there are places it fails as where memory is short.
-pub(crate) fn tournament<A: Allocator>(alloc: A, turns: &[Turn]) -> Result<Vec<Node, A>, AllocError>
+pub fn tournament<A: Allocator>(alloc: A, turns: &[Turn]) -> Result<Vec<Node, A>, AllocError>
     ensures { IfOk result (λ nodes. IsTournament turns.now nodes.items) }
 {
     if turns.len() as u128 > PLACES {

@@ -9,7 +9,7 @@ use crate::course::{Coming, Course, frame_after, moment_after};
 
 /// A stream, how many of its frames have come, the moment of the last of them, and so the one that comes next.
 #[derive(Clone, Copy)]
-pub(crate) struct Turn {
+pub struct Turn {
     course: Course,
     come: u32,
     reached: u128,
@@ -24,7 +24,7 @@ impl Turn {
     ghost use Rattle.std.specs.Prelude.{◌∷◌, [], MatchOption, IfNone, option_map};
 
     /// Before the first frame.
-    pub fn first(course: Course) -> Turn
+    pub(crate) fn first(course: Course) -> Turn
         requires { IsCourse course }
         ensures { left_of result ≡ frames_of course }
     {

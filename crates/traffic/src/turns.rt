@@ -9,7 +9,7 @@ use crate::turn::Turn;
 
 /// Takes the frame that comes next of all streams, if there is one; at one moment that of the first stream in the
 /// table.
-pub(crate) fn next_frame(turns: &mut [Turn], nodes: &mut [Node]) -> Option<Coming>
+pub fn next_frame(turns: &mut [Turn], nodes: &mut [Node]) -> Option<Coming>
     requires tournament { IsTournament turns.old nodes.old }
     ensures tournament { IsTournament turns.new nodes.new }
     ensures left { MatchOption result (left_of_all turns.old ≡ [])
