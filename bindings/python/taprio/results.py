@@ -1031,9 +1031,10 @@ class _PathsReader:
         silent, verdict, unheard, cyclic = (form.fullmatch(line) for form in (_SILENT, _CLASS, _UNHEARD, _CYCLIC))
         if silent and not last.silent and not last.classes:
             self.ports[-1] = dataclasses.replace(last, silent=_classes(silent[1]))
-        elif verdict or unheard:
-            one = _verdict(verdict) if verdict else ClassVerdict(int(unheard[1]), unheard[2])
-            self.ports[-1] = dataclasses.replace(last, classes=(*last.classes, one))
+        elif verdict:
+            self.ports[-1] = dataclasses.replace(last, classes=(*last.classes, _verdict(verdict)))
+        elif unheard:
+            self.ports[-1] = dataclasses.replace(last, classes=(*last.classes, ClassVerdict(int(unheard[1]), unheard[2])))
         elif cyclic:
             self.cyclic = _circles(line)
         else:
