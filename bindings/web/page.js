@@ -81,7 +81,9 @@ let again = false; // whether it is to be drawn once more
 let moving = false; // whether what is moved by hand is run
 let moved = false; // and whether it was moved since
 
-const COMPARED = ["script", "bounds", "streams", "replay"]; // the jobs of which another schedule is run, too
+const COMPARED = ["script", "bounds", "paths", "streams", "replay"]; // the jobs of which another schedule is run, too
+const JUDGED = ["bounds", "paths"]; // the jobs that judge streams for ever, under schedules that stand alone in the text
+const ALONE = ["check", "paths"]; // the jobs of which a schedule is drawn alone
 const NAMES = { script: "Script", bounds: "Schedules", paths: "Schedules of the ports", check: "Schedules", streams: "Table of streams", replay: "Script of the replay" };
 const BESIDE = { streams: "Script whose lines go among the frames", bounds: "Table of streams", paths: "Network" };
 const SECOND = { streams: "script", bounds: "table", paths: "network" }; // what faults call that text
@@ -312,7 +314,7 @@ function showPicture({ output }, values) {
   addressOf(at("save-picture"), output, "image/svg+xml");
   at("frame").dataset.width = values.width;
   at("zoom").hidden = false;
-  showControls(true, !["check", "paths"].includes(ran.job));
+  showControls(true, !ALONE.includes(ran.job));
   ran.drawn = { text, shown };
   layPicture();
   performance.mark("picture");
@@ -344,11 +346,12 @@ function layPicture() {
 // What to draw: where no end is given, the picture goes to the moment that the run goes to.
 async function drawValues() {
   const { port } = ran;
+  const its = ran.other?.source === null ? null : ran.other; // (a port of a network is drawn alone)
   const until = ran.values.until ?? ran.until;
   const values = { ...(await valuesFor("draw", readMoments)), ...port, width: widthNow() };
-  const wanted = ran.other ? windowOfBoth(ran.window, ran.other.window) : ran.window;
+  const wanted = its ? windowOfBoth(ran.window, its.window) : ran.window;
   if (wanted && values.from === null && values.to === null) Object.assign(values, wanted);
-  if (values.to === null && ran.other) values.to = endOfBoth(values.from ?? 0n);
+  if (values.to === null && its) values.to = endOfBoth(values.from ?? 0n);
   if (values.to === null && until !== null && until > (values.from ?? 0n)) values.to = until;
   return values;
 }
@@ -764,7 +767,7 @@ async function takeOwn(mine, answers) {
   await takeAnswers(mine, ran, answers);
   const schedules = ran.schedules.map((it) => it.name);
   fillWhich({ bounds: ran.bounds.map((_, place) => String(place + 1)), paths: ["all paths", ...schedules] }[ran.job] ?? schedules);
-  if (["check", "paths"].includes(ran.job)) await takeSchedule(mine);
+  if (ALONE.includes(ran.job)) await takeSchedule(mine);
 }
 
 function fillWhich(names) {
@@ -965,7 +968,7 @@ function refuseOther(words, line, before) {
 function inputOfOther(words) {
   const { job: name, text, besideText, beside: second } = ran;
   if (name === "streams") return { text, beside: encoded(withSchedule(besideText, words)) };
-  return { text: name === "bounds" ? words : withSchedule(text, words), beside: second };
+  return { text: JUDGED.includes(name) ? words : withSchedule(text, words), beside: second };
 }
 
 // Runs what stands in the page under the other schedule, where one is given.
@@ -983,14 +986,15 @@ async function takeOther(mine, before) {
 }
 
 async function runOther(mine, words, windows, before) {
-  const run = { ...ran, ...inputOfOther(words), drawn: null };
+  const run = { ...ran, ...inputOfOther(words), source: null, drawn: null };
   const told = await ask(mine, { job: run.job, input: encoded(run.text), beside: run.beside, values: run.values });
   if (!told) return;
   run.answers = new TextDecoder().decode(told.output);
   if (told.status === 0) await takeAnswers(mine, run, run.answers);
   if (mine !== turn) return;
   const [refused] = refusedCommands(words, run.told);
-  if (told.status !== 0) refuseOther(explain(told.fault).text, null, before);
+  const fault = told.status === 0 ? null : explain(told.fault);
+  if (fault) refuseOther(fault.text, fault.source === "schedules" ? fault.line : null, before);
   else if (refused) refuseOther(`Line ${refused.line}: ${refused.answer}.`, refused.line, before);
   else ran.other = { ...run, windows };
   if (ran.other) await takeOwnWindows(mine);
@@ -1003,14 +1007,20 @@ async function takeOwnWindows(mine) {
   if (told?.status === 0) ran.windows = windowsIn(new TextDecoder().decode(told.output));
 }
 
+// What the run under the other schedule comes to.
+function otherSaid(its) {
+  if (its.job === "paths") return pathsVerdict(its.paths, writeTime);
+  return its.job === "bounds" ? boundsVerdict(its.bounds[0], writeTime) : runVerdict(its.frames, writeTime) + laterOf(its);
+}
+
 function showDifferences() {
   const its = ran.other;
   at("differences-box").hidden = !its;
   if (!its) return;
-  differenceTable.show(ran.job === "bounds" ? differencesByStream(streamsOf(ran), streamsOf(its)) : differencesByClass(ran, its));
+  differenceTable.show(JUDGED.includes(ran.job) ? differencesByStream(streamsOf(ran), streamsOf(its)) : differencesByClass(ran, its));
   addressOf(at("save-differences"), encoded(differenceTable.csv), "text/csv");
   addressOf(at("save-other-answers"), encoded(its.answers), "text/plain");
-  at("other-verdict").textContent = ran.job === "bounds" ? boundsVerdict(its.bounds[0], writeTime) : runVerdict(its.frames, writeTime) + laterOf(its);
+  at("other-verdict").textContent = otherSaid(its);
 }
 
 // Draws the same time of the run under the other schedule.
@@ -1103,7 +1113,7 @@ function showGates() {
 
 // The picture of a check, or of a network's port, shows the schedule whose gates are chosen.
 function chooseSchedule(source, line) {
-  const place = ["check", "paths"].includes(ran?.job) && !source ? ran.schedules.findIndex((it) => it.number === line) : -1;
+  const place = ALONE.includes(ran?.job) && !source ? ran.schedules.findIndex((it) => it.number === line) : -1;
   if (place < 0) return;
   at("which").value = String(ran.job === "paths" ? place + 1 : place);
   at("which").dispatchEvent(new Event("change"));
@@ -1219,7 +1229,7 @@ const stateNow = () => ({ job: jobShown, ...wordsOfOptions(), ...(hasBeside(jobS
 function load(state) {
   setJob(NAMES[state.job] ? state.job : "script");
   // (the picture of a check, and of a port, is of two cycles of the schedule that is chosen)
-  setOptions(["check", "paths"].includes(state.job) ? { ...state, from: "", to: "" } : state);
+  setOptions(ALONE.includes(state.job) ? { ...state, from: "", to: "" } : state);
   editor.text = state.text ?? "";
   beside.text = state.beside ?? "";
   other.text = state.other ?? "";
@@ -1516,7 +1526,7 @@ async function takeFile(file) {
     const text = textOf(octets);
     if (text === null) return;
     const name = jobOf(text, job());
-    const part = ["bounds", "paths"].includes(name) && (hasStreams(text) || isNetwork(text)) ? beside : editor;
+    const part = JUDGED.includes(name) && (hasStreams(text) || isNetwork(text)) ? beside : editor;
     beginAnother();
     part.text = text;
     // (beside a network stand schedules)
@@ -1640,7 +1650,7 @@ function listenToResults() {
   at("origin").addEventListener("change", () => ran && (layPicture(), showTables()));
   at("which").addEventListener("change", () => begin(async (mine) => {
     forgetTime();
-    if (["check", "paths"].includes(ran.job)) {
+    if (ALONE.includes(ran.job)) {
       strip.showLine(chosenSchedule()?.number);
       await takeSchedule(mine);
     }

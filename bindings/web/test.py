@@ -866,6 +866,9 @@ def try_paths(page):
             change = re.search(rb"change (\d+)", program("script", text=line.encode())[1])[1].decode()
             cycle = sum(map(int, re.findall(r"sched-entry S \w+ (\d+)", line))) * 1000
             page.picture(f"the port {ports[place - 1]}, whose base time is {base}", line.encode(), "--from", change, "--to", str(int(change) + 2 * cycle))
+        page.do("const it = document.querySelector('#gates-line'); it.value = '1'; it.dispatchEvent(new Event('change'))")
+        page.settle()
+        page.same(f"the port of {name}.paths whose gates are chosen", page.do("return at('which').value"), "2")
         choose_picture(page, 0)
         page.same(f"bars of {name}.paths again", page.do("return document.querySelectorAll('#canvas rect.f').length"), paths)
     page.choose("line.paths")
@@ -881,6 +884,9 @@ def try_paths(page):
         page.same(f"verdict of {network!r}", page.text("verdict")[: len(said)], said)
         page.same(f"bars of {network!r}", page.do("return document.querySelectorAll('#canvas rect.f').length"), bars)
         page.same(f"classes of {network!r}", [it for it in chosen_rows(page, "ports") if it[-1] != "bounded"], without)
+    page.open(f"#job=paths&beside={packed(NETWORKS[0][0])}&text={packed(TWO_PORTS)}")
+    page.same("paths by a link", page.text("verdict")[:23], "Bounds for 2 of 3 paths")
+    page.open("")
     try_faults_of_paths(page)
 
 
@@ -1161,8 +1167,30 @@ def try_compare_kept(page, text):
     page.same("brought back", page.do("return at('other').value"), OTHER)
 
 
+def try_compare_paths(page):
+    """A network under other schedules; and the schedule of a port, which is drawn alone."""
+    schedules = (EXAMPLES / "line.schedules").read_text(encoding="utf-8")
+    other = schedules.replace("sched-entry S 80 40000", "sched-entry S 80 500").replace("base-time 3000", "base-time 0")
+    page.choose("line.paths")
+    page.click("#compare")
+    page.set("other", other)
+    page.run()
+    wanted = program("paths", EXAMPLES / "line.network", text=other.encode())[1]
+    page.same("paths under other schedules", page.saved("save-other-answers"), wanted)
+    page.same("deadlines of paths under both", page.do(DIFFERENCES)[0], ["all", "Deadlines met, of 2 streams", "2", "1", "\u22121"])
+    page.same("bars of both", page.do("return ['canvas', 'other-canvas'].map((it) => document.querySelectorAll(`#${it} rect.f`).length)"), [3, 2])
+    choose_picture(page, 1)
+    page.same("a port beside other schedules", page.do("return [at('frame').hidden, at('other-view').hidden]"), [False, True])
+    line = re.sub(r" *\\\n *", " ", schedules).split("\n")[1].encode()
+    change = int(re.search(rb"change (\d+)", program("script", text=line)[1])[1])
+    page.picture("a port beside other schedules", line, "--from", str(change), "--to", str(change + 500_000_000))
+    page.set("other", f"{other}tc qdisc del dev sw1 root\n")
+    page.run()
+    page.same("a fault of other schedules", page.text("other-fault"), "Line 8: Deletion, a port whose gates are open has no line here.")
+
+
 def try_compare_jobs(page):
-    """Bounds, a table of streams and a replay under another schedule."""
+    """Bounds, paths, a table of streams and a replay under another schedule."""
     page.choose("drive.bounds")
     short = (EXAMPLES / "drive_short.schedule").read_text(encoding="utf-8")
     page.click("#compare")
@@ -1170,6 +1198,7 @@ def try_compare_jobs(page):
     page.run()
     page.same("bounds under the other schedule", page.saved("save-other-answers"), program("bounds", EXAMPLES / "drive.streams", text=short.encode())[1])
     page.same("deadlines under both", page.do(DIFFERENCES)[0], ["all", "Deadlines met, of 4 streams", "4", "2", "\u22122"])
+    try_compare_paths(page)
     page.choose("planned.streams")
     page.click("#compare")
     page.set("other", OTHER)
