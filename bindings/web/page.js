@@ -90,7 +90,7 @@ const SECOND = { streams: "script", bounds: "table", paths: "network" }; // what
 const HINTS = {
   script: "Lines: clock M, frame ID PRIORITY LEN [tagged], query, count CLASS, tc qdisc .. taprio ..; moments in picoseconds.",
   bounds: "Lines: tc qdisc .. taprio ..; below: stream FIRST_ID PRIORITY LEN PERIOD OFFSET COUNT [tagged] [shortest LEN] [jitter TIME] [deadline TIME]; OFFSET may be any.",
-  paths: "Lines: tc qdisc .. taprio .., one for each port, whose name is behind dev; below: link FROM TO TIME [TIME], clocks TIME, port NAME [rate MBPS] [mtu OCTETS] [room FRAMES], and the lines of a table of streams with via NAME NAME ...",
+  paths: "Lines: tc qdisc .. taprio .., one for each port, whose name is behind dev; below: link FROM TO TIME [TIME], clocks TIME, port NAME [rate MBPS] [mtu OCTETS] [room FRAMES], stream FIRST_ID PRIORITY LEN PERIOD OFFSET COUNT [..] via NAME NAME ..",
   check: "Lines: tc qdisc .. taprio ..; each is answered by the classes that it keeps apart.",
   replay: "Lines of a script, without frame: the frames are the records of the capture.",
   streams: "Lines: stream FIRST_ID PRIORITY LEN PERIOD OFFSET COUNT [tagged] [shortest LEN] [jitter TIME]; times such as 250us, and OFFSET may be any.",
