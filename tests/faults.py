@@ -15,8 +15,7 @@ WORDS = "bindings/web/faults.js"
 PARTS = ["A line is malformed", "A strict run finds something", "A capture is malformed", "An option has a bad value", "Files and memory"]
 # What the page never meets: it opens no files, has no strict runs, and lacks these options or gives them values of its own.
 UNMET = {"BadShift", "OUT is one of the inputs", "cannot open", "read failed", "write failed", "bounds", "bounds: no schedule was judged",
-         "bounds: no stream is in the table", "BadName", "SecondPort", "SecondLink", "SecondClocks", "PortTwice", "NoLink", "NoWay", "tc-fault",
-         "Deletion", "UnknownPort", "Uncrossed", "SecondSchedule"} | {
+         "bounds: no stream is in the table"} | {
     f"bad value of --{name}"
     for name in ("map", "frame", "stamp", "shift", "width", "cycle", "entries", "least-interval", "device", "base-time", "next")}
 # What a strict run finds, and is no fault: it ends no run.
@@ -54,7 +53,7 @@ def on_the_page():
     """What the page has words for."""
     text = (ROOT / WORDS).read_text(encoding="utf-8")
     tables = dict(re.findall(r"^const (\w+) = \{\n(.*?)^\};", text, re.MULTILINE | re.DOTALL))
-    keys = {name: set(re.findall(r"^  (\w+):", body, re.MULTILINE)) for name, body in tables.items()}
+    keys = {name: set(re.findall(r'^  "?([\w-]+)"?:', body, re.MULTILINE)) for name, body in tables.items()}
     return keys["MEANINGS"] | {f"bad value of --{name}" for name in keys["WANTED"]}
 
 

@@ -88,13 +88,13 @@ static int begins(struct octets slice, struct octets with) {
     return slice.length >= with.length && memcmp(slice.at, with.at, with.length) == 0 && is_untouched(slice, with.length);
 }
 
-enum job { RUN, FRAMES, FRAMES_BY_STREAM, FRAMES_OF_CAPTURE, CHECK, CHECK_SHARES, STREAMS, STREAMS_FROM, BOUNDS, BOUNDS_SLACK, BOUNDS_ASKED, DRAW };
+enum job { RUN, FRAMES, FRAMES_BY_STREAM, FRAMES_OF_CAPTURE, CHECK, CHECK_SHARES, STREAMS, STREAMS_FROM, BOUNDS, BOUNDS_SLACK, BOUNDS_ASKED, PATHS, DRAW };
 
 struct call {
     enum job job;
     struct taprio_port_values values;
     struct taprio_picture_values shown; /* of STREAMS_FROM its beginning */
-    uint32_t windows; /* of BOUNDS_ASKED what is asked */
+    uint32_t windows; /* of BOUNDS_ASKED and PATHS what is asked */
     uint64_t frames;
     struct octets input, second;
 };
@@ -143,6 +143,10 @@ static struct taprio_ran call(const struct call *c, struct octets output, struct
     case BOUNDS_ASKED:
         taprio_bounds_asked(&c->values, c->frames, c->windows, c->input.at, c->input.length, c->second.at, c->second.length,
                             output.at, output.length, fault.at, fault.length, &ran);
+        break;
+    case PATHS:
+        taprio_paths(&c->values, c->frames, c->windows, c->input.at, c->input.length, c->second.at, c->second.length, output.at,
+                     output.length, fault.at, fault.length, &ran);
         break;
     default:
         taprio_draw(&c->values, &c->shown, c->input.at, c->input.length, output.at, output.length, fault.at, fault.length, &ran);
@@ -535,6 +539,69 @@ static void bounds_asked(void) {
     free(schedule.at);
 }
 
+/* two ports, a link of two times, and clocks that differ; class 6 has streams at the first port alone */
+static const char two_ports[] =
+    "link a b 1us 2us\n"
+    "clocks 100ns\n"
+    "stream 1 7 60 250us 10us 1 deadline 100us via a b\n"
+    "stream 2 5 200 1ms any 1 via a b\n"
+    "stream 3 6 60 1ms any 1 via a\n";
+
+/* class 7 has the first 50 us of each 250 us, and the others share the rest */
+static const char two_schedules[] =
+    "tc qdisc replace dev a root taprio num_tc 8 map 0 1 2 3 4 5 6 7 base-time 0 sched-entry S 80 50000 sched-entry S 7f 200000\n"
+    "tc qdisc replace dev b root taprio num_tc 8 map 0 1 2 3 4 5 6 7 base-time 0 sched-entry S 80 50000 sched-entry S 7f 200000\n";
+
+#define SETPOINT \
+    "hop 1 a class 7 within 0 to 0\nhop 1 b class 7 within 0 to 1200000\n" \
+    "path 1 end 2148000 to 3348000 deadline 100000000 met\n"
+#define ALARM "hop 3 a class 6 within 0 to 63007998\npath 3 end 672000 to 63679998\n"
+
+/* a network under the schedules of its ports: what is asked, and what is wrong with it */
+static void paths(void) {
+    static const char open[] =
+        "port a\napart 7\nclass 5 within most 1 of 128\nclass 6 within most 1 of 128\nclass 7 within most 1 of 128\n"
+        "port b\napart 7\nclass 5 open to 6\nclass 7 within most 1 of 128\n" SETPOINT
+        "hop 2 a class 5 within 0 to 64799998\npath 2 unknown at b\n" ALARM;
+    static const char silent[] =
+        "port a\napart 7\nclass 5 within most 1 of 128\nclass 6 within most 1 of 128\nclass 7 within most 1 of 128\n"
+        "port b\napart 7\nsilent 6\nclass 5 within most 1 of 128\nclass 7 within most 1 of 128\n" SETPOINT
+        "hop 2 a class 5 within 0 to 64799998\nhop 2 b class 5 within 0 to 64127998\npath 2 end 4388000 to 134515996\n" ALARM;
+    static const char left[] =
+        "port a\napart 7\nclass 5 open to 6\nclass 6 within most 1 of 128\nclass 7 within most 1 of 128\n"
+        "port b\napart 7\nclass 5 unknown\nclass 7 within most 1 of 128\n" SETPOINT "path 2 unknown at a\n" ALARM;
+    struct octets schedules = text(two_schedules), none = text(""), deletion = text("\ntc qdisc del dev b root\n");
+    struct octets brief = text("tc qdisc replace dev a root taprio num_tc 1 map 0 sched-entry S 01 4\n");
+    struct call c = {PATHS, usual, whole, 0, TAPRIO_FRAMES, {0}, schedules};
+    small("a network of two ports", c, two_ports, TAPRIO_DONE, open, "");
+    c.windows = 0xffff00fc | TAPRIO_SLACK | TAPRIO_WHY;
+    small("a network, and other bits are asked", c, two_ports, TAPRIO_DONE, open, "");
+    c.windows = TAPRIO_SILENT(6);
+    small("a network with a silent class", c, two_ports, TAPRIO_DONE, silent, "");
+    c.windows = TAPRIO_LEFTOVERS;
+    small("a network with leftovers", c, two_ports, TAPRIO_DONE, left, "");
+    small("a bad line of a network", c, "link a b 1us\nlink a b 2us\n", TAPRIO_BAD_INPUT, "",
+          "taprio_port: network line 2: SecondLink (line 1)\n");
+    struct call bad = c;
+    bad.second = deletion;
+    small("a bad line of its schedules", bad, two_ports, TAPRIO_BAD_INPUT, "", "taprio_port: schedules line 2: Deletion\n");
+    bad.second = brief;
+    small("a schedule that its port refuses", bad, two_ports, TAPRIO_BAD_INPUT, "",
+          "taprio_port: schedules line 1: refused IntervalTooShort 0\n");
+    bad.second = none;
+    bad.frames = 0;
+    small("a network, and no frames", bad, two_ports, TAPRIO_BAD_VALUE, "", "taprio_port: bad value of --frames\n");
+    bad.values.room = 0;
+    small("a network, and no room", bad, two_ports, TAPRIO_BAD_VALUE, "", "taprio_port: bad value of --room\n");
+    struct call files = {PATHS, usual, whole, 0, TAPRIO_FRAMES, {0}, {0}};
+    of_files(files, "line.network", "line.schedules", "line.paths");
+    of_files(files, "vehicle.network", "vehicle.schedules", "vehicle.paths");
+    free(schedules.at);
+    free(none.at);
+    free(deletion.at);
+    free(brief.at);
+}
+
 /* null pointers with length 0, in the place of each slice: the calls ask for room, or do what they do without octets */
 static void nulls(void) {
     struct taprio_ran ran;
@@ -558,6 +625,8 @@ static void nulls(void) {
     expect(ran.status == TAPRIO_DONE && ran.output == 0, "null pointers", "taprio_bounds_slack");
     taprio_bounds_asked(&usual, 1, TAPRIO_SILENT(7), NULL, 0, NULL, 0, NULL, 0, NULL, 0, &ran);
     expect(ran.status == TAPRIO_DONE && ran.output == 0, "null pointers", "taprio_bounds_asked");
+    taprio_paths(&usual, 1, TAPRIO_SILENT(7), NULL, 0, NULL, 0, NULL, 0, NULL, 0, &ran);
+    expect(ran.status == TAPRIO_NO_ROOM && ran.output == strlen("apart none\nsilent 7\n"), "null pointers", "taprio_paths");
     taprio_frames(&usual, NULL, 0, NULL, 0, NULL, 0, &ran);
     expect(ran.status == TAPRIO_NO_ROOM && ran.output == strlen(HEAD), "null pointers", "taprio_frames");
     taprio_frames_by_stream(&usual, NULL, 0, NULL, 0, NULL, 0, NULL, 0, &ran);
@@ -822,6 +891,7 @@ int main(int count, char **words) {
     small("a late moment", later, "stream", TAPRIO_BAD_VALUE, "", "taprio_port: bad value of --from\n");
     bounds();
     bounds_asked();
+    paths();
     frames();
     frames_by_stream();
     frames_of_capture();

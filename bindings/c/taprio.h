@@ -18,8 +18,8 @@
  *
  * What lies behind the text in a slice stays as it was. The texts of faults are those that the program writes on its standard
  * error: they begin with "taprio_port: " and end with a newline, without a NUL. Formats: docs/reference/script.md, docs/reference/tc.md,
- * docs/reference/frames.md, docs/reference/check.md, docs/reference/streams.md, docs/reference/bounds.md, docs/reference/draw.md,
- * docs/reference/replay.md.
+ * docs/reference/frames.md, docs/reference/check.md, docs/reference/streams.md, docs/reference/bounds.md, docs/reference/paths.md,
+ * docs/reference/draw.md, docs/reference/replay.md.
  *
  * What a caller has to keep
  * -------------------------
@@ -203,6 +203,15 @@ void taprio_bounds_asked(const struct taprio_port_values *values, uint64_t frame
                          size_t table_length, const uint8_t *schedules, size_t schedules_length, uint8_t *output,
                          size_t output_length, uint8_t *fault, size_t fault_length, struct taprio_ran *ran);
 
+/* Reports how long the frames of a network's streams take from end to end, for ever, as `taprio_port paths` does, with one schedule
+ * command for each port: what holds of each port and its classes, and how long each stream waits there and takes in all. `values` are
+ * those of each port, but where the network says otherwise; of `asked` TAPRIO_LEFTOVERS and TAPRIO_SILENT count, for every port. `frames`,
+ * and `until` and `summary` of the values, are as for taprio_bounds, and so is a deadline that is missed. At TAPRIO_BAD_INPUT there is no
+ * output. */
+void taprio_paths(const struct taprio_port_values *values, uint64_t frames, uint32_t asked, const uint8_t *network,
+                  size_t network_length, const uint8_t *schedules, size_t schedules_length, uint8_t *output, size_t output_length,
+                  uint8_t *fault, size_t fault_length, struct taprio_ran *ran);
+
 /* Draws the run of a script as an SVG picture, as `taprio_port draw` does. The run goes on to `until`, where it is given. There is no output at
  * TAPRIO_BAD_INPUT. */
 void taprio_draw(const struct taprio_port_values *values, const struct taprio_picture_values *shown, const uint8_t *script,
@@ -337,6 +346,14 @@ static inline void taprio_bounds_asked_or_null(const struct taprio_port_values *
                         taprio_lent(output), output_length, taprio_lent(fault), fault_length, ran);
 }
 
+static inline void taprio_paths_or_null(const struct taprio_port_values *values, uint64_t frames, uint32_t asked,
+                                        const uint8_t *network, size_t network_length, const uint8_t *schedules,
+                                        size_t schedules_length, uint8_t *output, size_t output_length, uint8_t *fault,
+                                        size_t fault_length, struct taprio_ran *ran) {
+    taprio_paths(values, frames, asked, taprio_octets(network), network_length, taprio_octets(schedules), schedules_length,
+                 taprio_lent(output), output_length, taprio_lent(fault), fault_length, ran);
+}
+
 static inline void taprio_draw_or_null(const struct taprio_port_values *values, const struct taprio_picture_values *shown,
                                        const uint8_t *script, size_t script_length, uint8_t *output, size_t output_length,
                                        uint8_t *fault, size_t fault_length, struct taprio_ran *ran) {
@@ -376,6 +393,7 @@ static inline void taprio_replay_stamped_or_null(const struct taprio_port_values
 #define taprio_bounds taprio_bounds_or_null
 #define taprio_bounds_slack taprio_bounds_slack_or_null
 #define taprio_bounds_asked taprio_bounds_asked_or_null
+#define taprio_paths taprio_paths_or_null
 #define taprio_draw taprio_draw_or_null
 #define taprio_replay taprio_replay_or_null
 #define taprio_replay_stamped taprio_replay_stamped_or_null

@@ -58,8 +58,8 @@ function sharingWords(line) {
   return null;
 }
 
-// What is told of a class, in words.
-function classWords(line, write) {
+/** What is told of a class, in words; null where there are none. */
+export function classWords(line, write) {
   const full = /^class (\d) full at (\d+) stream (\d+) frame (\d+)$/.exec(line);
   if (full) return `Class ${full[1]}: frame ${full[4]} of stream ${full[3]} is the first that finds the queue full, ${write(BigInt(full[2]))} after the schedule comes into force.`;
   const stuck = /^class (\d) stuck at (\d+) stream (\d+) frame (\d+)(?: full at (\d+) stream (\d+) frame (\d+))?$/.exec(line);
@@ -83,23 +83,25 @@ function classWords(line, write) {
 /** What the times of these streams count from. The nominal moment is OFFSET + n * PERIOD: without jitter the arrival. */
 export const countedFrom = (streams) => (streams.some((it) => it.within) ? "their nominal moment, or with the offset any from their arrival" : "their arrival");
 
-// The streams of these ids, behind a word; nothing where there are none.
-const listed = (word, ids) => (ids.length ? `; ${word}: stream${ids.length === 1 ? "" : "s"} ${ids.join(", ")}` : "");
+/** The streams of these ids, behind a word; nothing where there are none. */
+export const listed = (word, ids) => (ids.length ? `; ${word}: stream${ids.length === 1 ? "" : "s"} ${ids.join(", ")}` : "");
 
 // What is taken for granted of classes that are said to be silent: of all that have no streams.
 const silentWords = (silent) => (silent === null ? "" : silent.length ? `${classesOf(silent).replace("c", "C")} ${silent.length === 1 ? "is" : "are"} taken to send nothing.` : "Each class that is said to be silent has streams.");
 
-/** What bounds say in a sentence or a few. */
-export function boundsVerdict({ silent, classes, streams }, write) {
+/** What is told of the deadlines of streams, in a sentence. */
+export function deadlinesSaid(streams) {
   const due = streams.filter((it) => it.deadline !== null);
   const met = due.filter((it) => it.verdict === "met");
   const those = (verdict) => due.filter((it) => it.verdict === verdict).map((it) => it.id);
-  const head = !streams.length ? ""
-    : !due.length ? `${count(streams.length, "stream")}, no deadlines.`
-    : met.length === due.length ? `Every deadline is met, for ever.`
-    : `${met.length} of ${due.length} deadlines are met for ever${listed("missed", those("missed"))}${listed("not known", those("unknown"))}.`;
-  return [head, silentWords(silent), ...classes.map((it) => classWords(it, write))].filter(Boolean).join(" ");
+  if (!streams.length) return "";
+  if (!due.length) return `${count(streams.length, "stream")}, no deadlines.`;
+  if (met.length === due.length) return "Every deadline is met, for ever.";
+  return `${met.length} of ${due.length} deadlines are met for ever${listed("missed", those("missed"))}${listed("not known", those("unknown"))}.`;
 }
+
+/** What bounds say in a sentence or a few. */
+export const boundsVerdict = ({ silent, classes, streams }, write) => [deadlinesSaid(streams), silentWords(silent), ...classes.map((it) => classWords(it, write))].filter(Boolean).join(" ");
 
 const BEGIN = 92; // where time begins, in pixels
 const END = 24; // what lies behind its end

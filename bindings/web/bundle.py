@@ -69,19 +69,26 @@ def bounded(folder):
              "beside": (folder / f"{path.stem.split('_')[0]}.streams").read_text(encoding="utf-8")} for path in sorted(folder.glob("*.bounds"))]
 
 
+def networks(folder):
+    """The examples of paths: the schedules and the network of their name."""
+    return [{"name": path.name, "job": "paths", "text": path.with_suffix(".schedules").read_text(encoding="utf-8"),
+             "beside": path.with_suffix(".network").read_text(encoding="utf-8")} for path in sorted(folder.glob("*.paths"))]
+
+
 def examples(folder):
-    """The examples by name: what kind each is, its text, its options, and for a table the script that goes among its frames."""
+    """The examples by name: what kind each is, its text, its options, and for a table the script that goes among its frames. Schedules of a
+    network are those of its paths."""
     given = options(folder)
     found = []
     for path in sorted(folder.iterdir()):
-        if path.suffix not in KINDS:
+        if path.suffix not in KINDS or path.with_suffix(".network").exists():
             continue
         beside = path.with_suffix(".schedule")
         entry = {"name": path.name, "job": KINDS[path.suffix], "text": path.read_text(encoding="utf-8")}
         if path.suffix == ".streams" and beside.exists():
             entry["beside"] = beside.read_text(encoding="utf-8")
         found.append(entry | given.get(path.name, {}))
-    return found + bounded(folder) + captures(folder)
+    return found + bounded(folder) + networks(folder) + captures(folder)
 
 
 def data(value):

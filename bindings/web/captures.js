@@ -19,11 +19,21 @@ export function kindOf(octets) {
   return { kind: "text" };
 }
 
-// What kind of text it is, by its lines.
+const NETWORK_LINE = /^[ \t]*(?:(?:port|link|clocks)[ \t]|stream[ \t].*[ \t]via[ \t])/m;
+const STREAM_LINE = /^[ \t]*stream[ \t]/m;
+
+/** Whether a text has lines that only a network has. */
+export const isNetwork = (text) => NETWORK_LINE.test(text);
+
+/** Whether a text has streams, as a table or a network has. */
+export const hasStreams = (text) => STREAM_LINE.test(text);
+
+/** What kind of text it is, by its lines. */
 export function jobOf(text, now) {
-  if (/^[ \t]*stream[ \t]/m.test(text)) return now === "bounds" ? "bounds" : "streams";
+  if (isNetwork(text)) return "paths";
+  if (hasStreams(text)) return ["bounds", "paths"].includes(now) ? now : "streams";
   if (/^[ \t]*(?:frame|clock|query|count)\b/m.test(text)) return now === "replay" && !/^[ \t]*frame\b/m.test(text) ? "replay" : "script";
-  return ["check", "bounds", "replay", "script"].includes(now) ? now : "check";
+  return ["check", "bounds", "paths", "replay", "script"].includes(now) ? now : "check";
 }
 
 // The frame of a record, as a replay takes it: IEEE Std 802.1Q-2018, 9.6 has the tag.

@@ -4,6 +4,18 @@ const MEANINGS = {
   LongLine: "the line has more than 65,536 octets.",
   TooManyLines: "there are more than 4,000,000 lines.",
   UnknownLine: "the first word of the line is none that may stand there.",
+  BadName: "a port's name has 1 to 15 octets, none of them a slash.",
+  SecondPort: "a line before it says what the port has.",
+  SecondLink: "a line before it has this link.",
+  SecondClocks: "a line before it says by how much clocks differ.",
+  PortTwice: "the way goes over this port twice.",
+  NoLink: "no link leads from the first port to the second.",
+  NoWay: "there are several ports, and the stream has no via.",
+  Deletion: "a port whose gates are open has no line here.",
+  UnknownPort: "the word behind dev is no port of the network.",
+  Uncrossed: "no stream crosses this port.",
+  SecondSchedule: "its port has a schedule already.",
+  "tc-fault": "it is no schedule command.",
   FrameInReplay: "the frames of a replay are those of the capture.",
   WordCount: "the line has too few or too many words.",
   BadNumber: "a word is no number, or is out of its range.",
@@ -35,7 +47,7 @@ const WANTED = {
  * The place and the meaning of a fault.
  *
  * @param {string} text as the program says it
- * @returns {{text: string, line: number | null, source: "script" | "table" | null}}
+ * @returns {{text: string, line: number | null, source: "script" | "table" | "network" | "schedules" | null}}
  */
 export function explain(text) {
   const said = text.trim().replace(/^taprio_port: /, "");
@@ -43,9 +55,10 @@ export function explain(text) {
   if (WANTED[option]) return { text: `${said}: wanted is ${WANTED[option]}.`, line: null, source: null };
   const [, ofCapture] = /^capture (?:header|record \d+): (\w+)$/.exec(said) ?? [];
   if (MEANINGS[ofCapture]) return { text: `${said}, ${MEANINGS[ofCapture]}`, line: null, source: null };
-  const found = /^(script|table) line (\d+): (\w+)/.exec(said);
+  // (what stands behind a name are the ports, the line or the option that it is about)
+  const found = /^(script|table|network|schedules) line (\d+): ([\w-]+)(.*)$/.exec(said);
   if (!found) return { text: said, line: null, source: null };
-  const [, source, line, name] = found;
+  const [, source, line, name, more] = found;
   const meaning = MEANINGS[name];
-  return { text: `Line ${line}: ${name}${meaning ? `, ${meaning}` : ""}`, line: Number(line), source };
+  return { text: `Line ${line}: ${name}${more}${meaning ? `, ${meaning}` : ""}`, line: Number(line), source };
 }

@@ -14,6 +14,7 @@ const USED = {
   draw: ["rate", "mtu", "room", "from", "to"],
   replay: ["rate", "mtu", "room", "until", "summary"],
   bounds: ["rate", "mtu", "room", "frames", "slack", "why", "silent", "leftovers"],
+  paths: ["rate", "mtu", "room", "frames", "silent", "leftovers"],
   check: ["rate", "shares", "windows"],
   streams: ["late", "seed"],
 };

@@ -15,6 +15,7 @@ import { runVerdict } from "./frames.js";
 import { runOf, whySaid } from "./why.js";
 import { timesOf } from "./shades.js";
 import { boundsIn, boundsVerdict, countedFrom, drawBounds, latestOf } from "./bounds.js";
+import { pathsIn, pathsVerdict, valuesOfPort } from "./paths.js";
 import { commandsIn, differencesByClass, differencesByStream, windowOfBoth, withSchedule } from "./compare.js";
 import { dateOf, endOfRun, notYet, originOf, setClock, windowOf } from "./happens.js";
 import { count } from "./words.js";
@@ -22,7 +23,7 @@ import { Inputs } from "./inputs.js";
 import { Strip } from "./strip.js";
 import { BadSchedule } from "./documents.js";
 import { formOf, importedFrom, nameOfForm } from "./imports.js";
-import { jobOf, kindOf, recordsOf, scriptOfReplay } from "./captures.js";
+import { hasStreams, isNetwork, jobOf, kindOf, recordsOf, scriptOfReplay } from "./captures.js";
 import { STEPS } from "./gallery.js";
 import { INSTEAD, lacking } from "./support.js";
 
@@ -80,12 +81,16 @@ let again = false; // whether it is to be drawn once more
 let moving = false; // whether what is moved by hand is run
 let moved = false; // and whether it was moved since
 
-const COMPARED = ["script", "bounds", "streams", "replay"]; // the jobs of which another schedule is run, too
-const NAMES = { script: "Script", bounds: "Schedules", check: "Schedules", streams: "Table of streams", replay: "Script of the replay" };
-const BESIDE = { streams: "Script whose lines go among the frames", bounds: "Table of streams" };
+const COMPARED = ["script", "bounds", "paths", "streams", "replay"]; // the jobs of which another schedule is run, too
+const JUDGED = ["bounds", "paths"]; // the jobs that judge streams for ever, under schedules that stand alone in the text
+const ALONE = ["check", "paths"]; // the jobs of which a schedule is drawn alone
+const NAMES = { script: "Script", bounds: "Schedules", paths: "Schedules of the ports", check: "Schedules", streams: "Table of streams", replay: "Script of the replay" };
+const BESIDE = { streams: "Script whose lines go among the frames", bounds: "Table of streams", paths: "Network" };
+const SECOND = { streams: "script", bounds: "table", paths: "network" }; // what faults call that text
 const HINTS = {
   script: "Lines: clock M, frame ID PRIORITY LEN [tagged], query, count CLASS, tc qdisc .. taprio ..; moments in picoseconds.",
   bounds: "Lines: tc qdisc .. taprio ..; below: stream FIRST_ID PRIORITY LEN PERIOD OFFSET COUNT [tagged] [shortest LEN] [jitter TIME] [deadline TIME]; OFFSET may be any.",
+  paths: "Lines: tc qdisc .. taprio .., one for each port, whose name is behind dev; below: link FROM TO TIME [TIME], clocks TIME, port NAME [rate MBPS] [mtu OCTETS] [room FRAMES], stream FIRST_ID PRIORITY LEN PERIOD OFFSET COUNT [..] via NAME NAME ..",
   check: "Lines: tc qdisc .. taprio ..; each is answered by the classes that it keeps apart.",
   replay: "Lines of a script, without frame: the frames are the records of the capture.",
   streams: "Lines: stream FIRST_ID PRIORITY LEN PERIOD OFFSET COUNT [tagged] [shortest LEN] [jitter TIME]; times such as 250us, and OFFSET may be any.",
@@ -98,6 +103,7 @@ function say(words, done = false) {
 }
 
 const job = () => at("form").elements.job.value;
+const hasBeside = (name) => name in BESIDE;
 
 // 1. How times are written
 
@@ -126,6 +132,13 @@ const FRAME_COLUMNS = [
   ["id", "Frame", "number"], ["class", "Class", "number"], ["length", "Octets", "number"], ["arrival", "Arrives", "moment"], ["start", "Starts", "moment"],
   ["end", "Ends", "moment"], ["wait", "Waits", "time"], ["fate", "Fate", "text"],
 ];
+const PATH_COLUMNS = [
+  ["id", "Stream", "number"], ["first", "Earliest end", "time"], ["last", "Latest end", "time"], ["deadline", "Deadline", "time"], ["verdict", "Verdict", "text"], ["told", "", "text"],
+];
+const HOP_COLUMNS = [["id", "Stream", "number"], ["port", "Port", "text"], ["class", "Class", "number"], ["least", "Least wait", "time"], ["greatest", "Greatest wait", "time"]];
+const PORT_COLUMNS = [
+  ["port", "Port", "text"], ["class", "Class", "number"], ["apart", "Kept apart", "text"], ["most", "Most frames at once", "number"], ["room", "Room", "number"], ["verdict", "Verdict", "text"],
+];
 const DIFFERENCE_COLUMNS = [["of", "Of", "text"], ["what", "What", "text"], ["one", "Input's", "measure"], ["other", "Other", "measure"], ["difference", "Difference", "change"]];
 const boundsTable = ({ slack, why }) => `bounds${slack ? " slack" : ""}${why ? " why" : ""}`;
 const columns = (list) => list.map(([name, title, kind]) => ({ name, title, kind }));
@@ -135,7 +148,10 @@ const tables = {
   replay: new Table(at("classes"), columns(CLASS_COLUMNS), HOW),
   streams: new Table(at("classes"), columns(CLASS_COLUMNS), HOW),
   check: new Table(at("classes"), columns(WINDOW_COLUMNS), HOW),
+  paths: new Table(at("classes"), columns(PATH_COLUMNS), HOW),
 };
+const hopTable = new Table(at("hops"), columns(HOP_COLUMNS), HOW);
+const portTable = new Table(at("ports"), columns(PORT_COLUMNS), HOW);
 // What is asked of bounds says which columns they have.
 for (const slack of [false, true])
   for (const why of [false, true]) tables[boundsTable({ slack, why })] = new Table(at("classes"), columns(boundColumns({ slack, why })), HOW);
@@ -277,10 +293,18 @@ function fillOrigins(run) {
   at("origin").selectedIndex = Math.max(0, list.findIndex(([, value]) => value === wanted));
 }
 
-// What stands below a picture: how to move in time, which schedule it is of, and from when time counts.
-function showControls(time, which, origin) {
+// The place of what is chosen of the pictures: of several schedules one, and of paths all paths, and then the schedules.
+const chosen = () => Number(at("which").value) || 0;
+const chosenSchedule = () => ran.schedules[chosen() - (ran.job === "paths" ? 1 : 0)];
+
+// Whether the picture is one of bars, and not of a run.
+const hasBars = () => ran.job === "bounds" || (ran.job === "paths" && chosen() === 0);
+
+// What stands below a picture: how to move in time, what it is of where there are several, and from when time counts.
+function showControls(time, origin) {
   for (const part of document.querySelectorAll("#zoom [data-step], #zoom details")) part.hidden = !time;
-  at("which-row").hidden = !which;
+  at("which-row").hidden = at("which").length < 2;
+  at("which-name").textContent = ran.job === "paths" ? "Picture of" : "Schedule";
   at("origin-row").hidden = !origin;
 }
 
@@ -290,7 +314,7 @@ function showPicture({ output }, values) {
   addressOf(at("save-picture"), output, "image/svg+xml");
   at("frame").dataset.width = values.width;
   at("zoom").hidden = false;
-  showControls(true, ran.job === "check" && ran.schedules.length > 1, ran.job !== "check");
+  showControls(true, !ALONE.includes(ran.job));
   ran.drawn = { text, shown };
   layPicture();
   performance.mark("picture");
@@ -322,17 +346,18 @@ function layPicture() {
 // What to draw: where no end is given, the picture goes to the moment that the run goes to.
 async function drawValues() {
   const { port } = ran;
+  const its = ran.other?.source === null ? null : ran.other; // (a port of a network is drawn alone)
   const until = ran.values.until ?? ran.until;
   const values = { ...(await valuesFor("draw", readMoments)), ...port, width: widthNow() };
-  const wanted = ran.other ? windowOfBoth(ran.window, ran.other.window) : ran.window;
+  const wanted = its ? windowOfBoth(ran.window, its.window) : ran.window;
   if (wanted && values.from === null && values.to === null) Object.assign(values, wanted);
-  if (values.to === null && ran.other) values.to = endOfBoth(values.from ?? 0n);
+  if (values.to === null && its) values.to = endOfBoth(values.from ?? 0n);
   if (values.to === null && until !== null && until > (values.from ?? 0n)) values.to = until;
   return values;
 }
 
 async function draw(mine) {
-  if (ran.job === "bounds") return showBounds();
+  if (hasBars()) return showBounds();
   if (ran.source === null) return hidePicture(ran.why);
   const values = await drawValues();
   if (mine !== turn) return undefined;
@@ -347,7 +372,7 @@ async function draw(mine) {
 }
 
 function showBounds() {
-  const { streams } = ran.bounds[Number(at("which").value) || 0] ?? { streams: [] };
+  const streams = streamsOf(ran);
   if (!streams.length) return hidePicture("");
   const below = streamsOf(ran.other);
   const most = [streams, below].map(latestOf).reduce((a, b) => (a > b ? a : b));
@@ -357,9 +382,9 @@ function showBounds() {
   showOtherBounds(below, most);
   addressOf(at("save-picture"), encoded(standalone(svg)), "image/svg+xml");
   at("zoom").hidden = false;
-  showControls(false, ran.bounds.length > 1, false);
+  showControls(false, false);
   at("frame").setAttribute("aria-label", "Each stream from its earliest to its latest end, against its deadline. The table says the same.");
-  at("picture-status").textContent = `Bars: from the earliest to the latest end of a stream's frames, counted from ${countedFrom(streams)}. Line: the deadline, red where it is missed, and broken where that isn't known.`;
+  at("picture-status").textContent = `Bars: from the earliest to the latest end of a stream's frames, counted from ${countedFrom(streams)}${ran.job === "paths" ? ", at the first port" : ""}. Line: the deadline, red where it is missed, and broken where that isn't known.`;
   at("picture-status").classList.add("legend");
   return undefined;
 }
@@ -443,7 +468,8 @@ function showAnswers(name, output, text) {
 
 // Lists the schedule commands that weren't taken, each as a button to its line.
 function showRefused(name, text, answers) {
-  const refused = name === "streams" ? [] : refusedCommands(text, answers);
+  // (a port of a network that refuses its schedule ends the run, and the answers are not in the order of the commands)
+  const refused = ["streams", "paths"].includes(name) ? [] : refusedCommands(text, answers);
   const items = refused.map(({ line: number, answer }) => {
     const button = document.createElement("button");
     button.type = "button";
@@ -475,7 +501,7 @@ function windowsIn(answers) {
 }
 
 function showTables() {
-  const rows = { script: () => ran.classes, replay: () => ran.classes, check: () => ran.windows, bounds: () => ran.bounds[Number(at("which").value) || 0]?.streams ?? [], streams: () => ran.classes }[ran.job]();
+  const rows = { script: () => ran.classes, replay: () => ran.classes, check: () => ran.windows, bounds: () => streamsOf(ran), paths: () => streamsOf(ran), streams: () => ran.classes }[ran.job]();
   for (const name of ["results-name", "numbers"]) at(name).hidden = !rows.length && !ran.frames.length;
   at("classes").hidden = !rows.length;
   at("save-table").hidden = !rows.length;
@@ -484,10 +510,21 @@ function showTables() {
     table.show(rows);
     addressOf(at("save-table"), encoded(table.csv), "text/csv");
   }
+  showHops();
   showDifferences();
   at("frames-box").hidden = !ran.frames.length;
   at("frames-name").textContent = `Frames (${ran.frames.length.toLocaleString("en")})`;
   if (at("frames-box").open) showFrames();
+}
+
+// The waits at the ports of a network, and their classes.
+function showHops() {
+  at("hops-box").hidden = !ran.paths?.classes.length;
+  if (at("hops-box").hidden) return;
+  for (const [name, table, rows] of [["hops", hopTable, ran.paths.hops], ["ports", portTable, ran.paths.classes]]) {
+    table.show(rows);
+    addressOf(at(`save-${name}`), encoded(table.csv), "text/csv");
+  }
 }
 
 function showFrames() {
@@ -518,14 +555,11 @@ function clearFault() {
 }
 
 // The editor that has the lines of which a fault tells.
-const editorOf = (source) => {
-  const second = job() === "bounds" ? "table" : "script";
-  return ["streams", "bounds"].includes(job()) && source === second ? beside : editor;
-};
+const editorOf = (source) => (hasBeside(job()) && source === SECOND[job()] ? beside : editor);
 
 function showFault(text, input = null) {
   const { text: words, line: number, source } = explain(text);
-  const second = number !== null && editorOf(source) === beside ? { streams: "Script: ", bounds: "Table: " }[job()] : "";
+  const second = number !== null && editorOf(source) === beside ? { streams: "Script: ", bounds: "Table: ", paths: "Network: " }[job()] : "";
   at("fault-text").textContent = `${second}${words}`;
   at("fault-hint").textContent = number === null ? "" : HINTS[job()];
   const field = at(input ?? /--(\w+)/.exec(words)?.[1] ?? "");
@@ -566,11 +600,14 @@ function checkVerdict(answers) {
 
 // What bounds come to, or what lacks for them.
 function boundsSaid() {
-  const it = ran.bounds[Number(at("which").value) || 0];
+  const it = ran.bounds[chosen()];
   if (!it) return "No schedule stands there: a line tc qdisc replace .. taprio .. gives one.";
   if (!it.apart.startsWith("apart")) return "The schedule is not taken.";
   return it.streams.length ? boundsVerdict(it, writeTime) : "The table has no stream.";
 }
+
+// What paths come to, or what lacks for them.
+const pathsSaid = () => (ran.paths.paths.length ? pathsVerdict(ran.paths, writeTime) : "The network has no stream.");
 
 // What a run comes to; of frames that wait since nothing goes on after them, what makes it go on.
 function runSaid() {
@@ -599,7 +636,7 @@ function laterSaid() {
 }
 
 function sayVerdict(answers) {
-  const said = { script: runSaid, replay: runSaid, streams: () => streamsSaid(answers), bounds: boundsSaid, check: () => checkVerdict(answers) }[ran.job]();
+  const said = { script: runSaid, replay: runSaid, streams: () => streamsSaid(answers), bounds: boundsSaid, paths: pathsSaid, check: () => checkVerdict(answers) }[ran.job]();
   const later = laterSaid();
   const change = ran.changes.length && !later && ["script", "replay"].includes(ran.job) ? ` In force from ${writeMoment(ran.changes[0].change)}.` : "";
   at("verdict").textContent = said + later + (ran.frames.length ? "" : change);
@@ -638,11 +675,11 @@ const readMoments = async (words) => (await runner.run({ job: "moments", words }
 // What is run: the text and the values as they stand now.
 async function snapshot() {
   const [name, text] = [job(), editor.text];
-  const second = name === "replay" ? capture : encoded(["streams", "bounds"].includes(name) ? beside.text : "");
+  const second = name === "replay" ? capture : encoded(hasBeside(name) ? beside.text : "");
   const values = await valuesFor(name, readMoments);
   if (name === "replay" && !second.length) throw new BadOption("capture", "No capture is chosen: choose a classic pcap file, or drop one on the page.");
   const { rate, mtu, room } = values;
-  return { job: name, text, beside: second, besideText: beside.text, otherText: COMPARED.includes(name) ? other.text.trimEnd() : "", other: null, values, port: { rate, mtu, room }, until: null, frames: [], wire: [], times: timesOf([]), classes: [], changes: [], history: null, kinds: null, first: 0n, last: 0n, windows: [], bounds: [], schedules: [], source: null, why: "", drawn: null, window: null, waits: null };
+  return { job: name, text, beside: second, besideText: beside.text, otherText: COMPARED.includes(name) ? other.text.trimEnd() : "", other: null, values, port: { rate, mtu, room }, until: null, frames: [], wire: [], times: timesOf([]), classes: [], changes: [], history: null, kinds: null, first: 0n, last: 0n, windows: [], bounds: [], paths: null, schedules: [], source: null, why: "", drawn: null, window: null, waits: null };
 }
 
 // Does a job for a run, and null where another run has begun since.
@@ -658,11 +695,12 @@ async function takeRun(mine, run, script, until, answers) {
   if (told && ["script", "replay"].includes(run.job)) run.window = windowOf(run);
 }
 
-// The schedule of a check that is drawn: two of its cycles from its change on.
+// The schedule that is chosen of a check or of a network's ports: it is drawn alone, two of its cycles from its change on.
 async function takeSchedule(mine) {
-  const { number, line: text } = ran.schedules[Number(at("which").value) || 0] ?? {};
+  const { number, name, line: text } = chosenSchedule() ?? {};
   if (number === undefined) return;
-  const told = await ask(mine, { job: "script", input: encoded(`${text}\n`), beside: new Uint8Array(), values: { ...ran.values, until: null, summary: false } });
+  if (ran.job === "paths") ran.port = valuesOfPort(ran.besideText, name, ran.values);
+  const told = await ask(mine, { job: "script", input: encoded(`${text}\n`), beside: new Uint8Array(), values: { ...ran.values, ...ran.port, until: null, summary: false } });
   if (!told) return;
   await takeRun(mine, ran, `${text}\n`, null, new TextDecoder().decode(told.output));
   const [it] = ran.changes;
@@ -704,7 +742,14 @@ async function takeAnswers(mine, run, answers) {
   else if (name === "replay") await takeReplay(mine, run, answers);
   else if (name === "streams") await takeScript(mine, run, answers);
   else if (name === "bounds") run.bounds = boundsIn(answers);
+  else if (name === "paths") takePaths(run, answers);
   else if (name === "check") await takeCheck(mine, answers);
+}
+
+// What paths tell, and the schedules of the ports by their names.
+function takePaths(run, answers) {
+  run.paths = pathsIn(answers);
+  run.schedules = readScript(run.text).commands.map(({ line: number, words }) => ({ number, name: words[words.indexOf("dev") + 1], line: words.join(" ") }));
 }
 
 async function takeCheck(mine, answers) {
@@ -720,12 +765,13 @@ const checkWindows = (mine, text) => ask(mine, { job: "check", input: encoded(te
 // What the answers of what stands in the page come to, and which of its schedules is shown.
 async function takeOwn(mine, answers) {
   await takeAnswers(mine, ran, answers);
-  fillWhich(ran.job === "bounds" ? ran.bounds.map((_, place) => String(place + 1)) : ran.schedules.map((it) => it.name));
-  if (ran.job === "check") await takeSchedule(mine);
+  const schedules = ran.schedules.map((it) => it.name);
+  fillWhich({ bounds: ran.bounds.map((_, place) => String(place + 1)), paths: ["all paths", ...schedules] }[ran.job] ?? schedules);
+  if (ALONE.includes(ran.job)) await takeSchedule(mine);
 }
 
 function fillWhich(names) {
-  const before = Number(at("which").value) || 0;
+  const before = chosen();
   at("which").replaceChildren(...names.map((name, place) => new Option(name, String(place))));
   at("which").value = String(before < names.length ? before : 0);
 }
@@ -861,7 +907,7 @@ async function runAll(typed = false) {
 }
 
 // Whether what stands in the page is so short that it is run while it is typed.
-const isShort = () => editor.text.length + other.text.length + (["streams", "bounds"].includes(job()) ? beside.text.length : 0) <= MOST_RUN_SO && (job() !== "replay" || capture.length <= MOST_CAPTURE);
+const isShort = () => editor.text.length + other.text.length + (hasBeside(job()) ? beside.text.length : 0) <= MOST_RUN_SO && (job() !== "replay" || capture.length <= MOST_CAPTURE);
 
 // What stands in the page was changed: it is run after a moment without another change, where it is short.
 function runSoon() {
@@ -875,7 +921,7 @@ function runSoon() {
 
 // Draws anew what was run; of wishes that come while it draws the last is drawn next, and none while all is run.
 async function runPicture() {
-  if (!ran || ran.source === null && ran.job !== "bounds" || working) return;
+  if (!ran || ran.source === null && !hasBars() || working) return;
   again = drawing;
   if (drawing) return;
   drawing = true;
@@ -889,8 +935,8 @@ async function runPicture() {
 
 // 5. The other schedule
 
-// The streams of bounds that are shown; none where there are no bounds.
-const streamsOf = (run) => (run?.bounds[run === ran ? Number(at("which").value) || 0 : 0] ?? { streams: [] }).streams;
+// The streams of bounds that are shown, or all paths; none where there are neither.
+const streamsOf = (run) => run?.paths?.paths ?? run?.bounds[run === ran ? chosen() : 0]?.streams ?? [];
 
 // The end of the longer one of two runs; null where that is not after a moment.
 function endOfBoth(from) {
@@ -922,7 +968,7 @@ function refuseOther(words, line, before) {
 function inputOfOther(words) {
   const { job: name, text, besideText, beside: second } = ran;
   if (name === "streams") return { text, beside: encoded(withSchedule(besideText, words)) };
-  return { text: name === "bounds" ? words : withSchedule(text, words), beside: second };
+  return { text: JUDGED.includes(name) ? words : withSchedule(text, words), beside: second };
 }
 
 // Runs what stands in the page under the other schedule, where one is given.
@@ -940,14 +986,15 @@ async function takeOther(mine, before) {
 }
 
 async function runOther(mine, words, windows, before) {
-  const run = { ...ran, ...inputOfOther(words), drawn: null };
+  const run = { ...ran, ...inputOfOther(words), source: null, drawn: null };
   const told = await ask(mine, { job: run.job, input: encoded(run.text), beside: run.beside, values: run.values });
   if (!told) return;
   run.answers = new TextDecoder().decode(told.output);
   if (told.status === 0) await takeAnswers(mine, run, run.answers);
   if (mine !== turn) return;
   const [refused] = refusedCommands(words, run.told);
-  if (told.status !== 0) refuseOther(explain(told.fault).text, null, before);
+  const fault = told.status === 0 ? null : explain(told.fault);
+  if (fault) refuseOther(fault.text, fault.source === "schedules" ? fault.line : null, before);
   else if (refused) refuseOther(`Line ${refused.line}: ${refused.answer}.`, refused.line, before);
   else ran.other = { ...run, windows };
   if (ran.other) await takeOwnWindows(mine);
@@ -960,14 +1007,20 @@ async function takeOwnWindows(mine) {
   if (told?.status === 0) ran.windows = windowsIn(new TextDecoder().decode(told.output));
 }
 
+// What the run under the other schedule comes to.
+function otherSaid(its) {
+  if (its.job === "paths") return pathsVerdict(its.paths, writeTime);
+  return its.job === "bounds" ? boundsVerdict(its.bounds[0], writeTime) : runVerdict(its.frames, writeTime) + laterOf(its);
+}
+
 function showDifferences() {
   const its = ran.other;
   at("differences-box").hidden = !its;
   if (!its) return;
-  differenceTable.show(ran.job === "bounds" ? differencesByStream(streamsOf(ran), streamsOf(its)) : differencesByClass(ran, its));
+  differenceTable.show(JUDGED.includes(ran.job) ? differencesByStream(streamsOf(ran), streamsOf(its)) : differencesByClass(ran, its));
   addressOf(at("save-differences"), encoded(differenceTable.csv), "text/csv");
   addressOf(at("save-other-answers"), encoded(its.answers), "text/plain");
-  at("other-verdict").textContent = ran.job === "bounds" ? boundsVerdict(its.bounds[0], writeTime) : runVerdict(its.frames, writeTime) + laterOf(its);
+  at("other-verdict").textContent = otherSaid(its);
 }
 
 // Draws the same time of the run under the other schedule.
@@ -1058,11 +1111,11 @@ function showGates() {
   at("gates").hidden = !open;
 }
 
-// The picture of a check shows the schedule whose gates are chosen.
+// The picture of a check, or of a network's port, shows the schedule whose gates are chosen.
 function chooseSchedule(source, line) {
-  const place = ran?.job === "check" && !source ? ran.schedules.findIndex((it) => it.number === line) : -1;
+  const place = ALONE.includes(ran?.job) && !source ? ran.schedules.findIndex((it) => it.number === line) : -1;
   if (place < 0) return;
-  at("which").value = String(place);
+  at("which").value = String(ran.job === "paths" ? place + 1 : place);
   at("which").dispatchEvent(new Event("change"));
 }
 
@@ -1170,13 +1223,13 @@ function setCapture(octets, name) {
   at("capture-name").textContent = octets.length ? `${name}, ${count(octets.length, "octet")}` : "none is chosen";
 }
 
-const stateNow = () => ({ job: jobShown, ...wordsOfOptions(), ...(["streams", "bounds"].includes(jobShown) ? { beside: beside.text } : {}), ...(other.text && COMPARED.includes(jobShown) ? { other: other.text } : {}), text: editor.text });
+const stateNow = () => ({ job: jobShown, ...wordsOfOptions(), ...(hasBeside(jobShown) ? { beside: beside.text } : {}), ...(other.text && COMPARED.includes(jobShown) ? { other: other.text } : {}), text: editor.text });
 
 // Puts a text, its kind and its options into the page, and runs it.
 function load(state) {
   setJob(NAMES[state.job] ? state.job : "script");
-  // (the picture of a check is of two cycles of the schedule that is chosen)
-  setOptions(state.job === "check" ? { ...state, from: "", to: "" } : state);
+  // (the picture of a check, and of a port, is of two cycles of the schedule that is chosen)
+  setOptions(ALONE.includes(state.job) ? { ...state, from: "", to: "" } : state);
   editor.text = state.text ?? "";
   beside.text = state.beside ?? "";
   other.text = state.other ?? "";
@@ -1411,17 +1464,17 @@ function noteOwn() {
 }
 
 const SCRIPT_LINE = /^[ \t]*(?:clock|frame|stream|query|count)\b/m;
-const STREAM_LINE = /^[ \t]*stream[ \t]/m;
 const FRAME_LINE = /^[ \t]*(?:frame|stream)\b/m;
 
 // Whether the text that stands in the page can be that of a job.
 function fits(name) {
   const words = editor.text;
   if (!words.trim()) return false;
-  if (name === "script") return !STREAM_LINE.test(words);
-  if (name === "streams") return STREAM_LINE.test(words);
+  if (name === "script") return !hasStreams(words);
+  if (name === "streams") return hasStreams(words);
   if (name === "replay") return capture.length > 0 && !FRAME_LINE.test(words);
-  return !SCRIPT_LINE.test(words) && (name !== "bounds" || STREAM_LINE.test(beside.text));
+  if (SCRIPT_LINE.test(words)) return false;
+  return name === "check" || (hasStreams(beside.text) && (name === "paths" || !isNetwork(beside.text)));
 }
 
 // Another job by its tab: one's own text goes with it where it can, and else an example comes.
@@ -1473,9 +1526,11 @@ async function takeFile(file) {
     const text = textOf(octets);
     if (text === null) return;
     const name = jobOf(text, job());
-    const part = name === "bounds" && STREAM_LINE.test(text) ? beside : editor;
+    const part = JUDGED.includes(name) && (hasStreams(text) || isNetwork(text)) ? beside : editor;
     beginAnother();
     part.text = text;
+    // (beside a network stand schedules)
+    if (name === "paths" && SCRIPT_LINE.test(editor.text)) editor.text = "";
     part.writeMicros();
     setJob(name);
   }
@@ -1595,8 +1650,8 @@ function listenToResults() {
   at("origin").addEventListener("change", () => ran && (layPicture(), showTables()));
   at("which").addEventListener("change", () => begin(async (mine) => {
     forgetTime();
-    if (ran.job === "check") {
-      strip.showLine(ran.schedules[Number(at("which").value) || 0]?.number);
+    if (ALONE.includes(ran.job)) {
+      strip.showLine(chosenSchedule()?.number);
       await takeSchedule(mine);
     }
     fillOrigins(ran);
@@ -1604,7 +1659,7 @@ function listenToResults() {
     if (ran.job === "bounds") sayVerdict("");
     await draw(mine);
   }));
-  at("ps").addEventListener("change", () => ran && (showTables(), tellWhy(viewer.frame), ran.job === "bounds" && showBounds()));
+  at("ps").addEventListener("change", () => ran && (showTables(), tellWhy(viewer.frame), hasBars() && showBounds()));
   at("answers").addEventListener("click", findAnswered);
   at("frames-box").addEventListener("toggle", () => at("frames-box").open && showFrames());
   at("save-frames").addEventListener("click", () => saveFrames().catch(showError));

@@ -1,7 +1,7 @@
 // Calls the port's WebAssembly module, as bindings/c/taprio.h declares it. Only this file knows where its values lie, and where its heap is.
 
 /** The jobs that the module does, by the names of the program's. */
-export const JOBS = ["script", "draw", "check", "streams", "replay", "bounds", "frames"];
+export const JOBS = ["script", "draw", "check", "streams", "replay", "bounds", "paths", "frames"];
 
 const BLOCK = 16; // octets of the least block of the heap, and of what stands before each block
 const PAGE = 65536; // octets of a page of the module's memory
@@ -128,7 +128,7 @@ function streamsCall({ values }) {
   return values.late ? ["taprio_streams_late", (at, request) => [0, 0, ...slices(at, request)]] : ["taprio_streams", slices];
 }
 
-// What is asked of bounds, as TAPRIO_SLACK, TAPRIO_LEFTOVERS, TAPRIO_WHY and TAPRIO_SILENT say it.
+// What is asked of bounds and paths, as TAPRIO_SLACK, TAPRIO_LEFTOVERS, TAPRIO_WHY and TAPRIO_SILENT say it.
 const askedOf = ({ slack, why, leftovers, silent }) => ((silent ?? 0) << 8) | (slack ? 1 : 0) | (leftovers ? 2 : 0) | (why ? 4 : 0);
 
 // What each job calls, and the words of the call before its outputs; a slice is its address and its length.
@@ -138,13 +138,16 @@ const CALLS = {
   replay: ["taprio_replay", (at, { input, beside }) => [at.port, at.input, input.length, at.beside, beside.length]],
 };
 
+// The jobs over schedules that have a table of streams or a network beside them, and walk so many frames.
+const ASKED = { bounds: "taprio_bounds_asked", paths: "taprio_paths" };
+
 // The jobs whose call depends on what is asked.
 const CHOSEN = { frames: framesCall, streams: streamsCall };
 
 // What each job fills, in the order of the lengths that are told: a replay has two outputs.
 const filled = (job) => (job === "replay" ? ["output", "departures", "fault"] : ["output", "fault"]);
 
-// Calls the module: addresses and lengths are 64 bits wide; the two numbers of a check and what is asked of bounds are 32.
+// Calls the module: addresses and lengths are 64 bits wide; the two numbers of a check and what is asked of bounds and paths are 32.
 function call(exports, at, request, lengths) {
   const slices = filled(request.job).flatMap((name) => [at[name], lengths[name]]);
   const ends = [...slices, at.ran].map(BigInt);
@@ -153,10 +156,10 @@ function call(exports, at, request, lengths) {
     exports[shares ? "taprio_check_shares" : "taprio_check"](rate, windows ? 1 : 0, BigInt(at.input), BigInt(request.input.length), ...ends);
     return;
   }
-  if (request.job === "bounds") {
+  if (ASKED[request.job]) {
     const { values, input, beside } = request;
     const texts = [at.beside, beside.length, at.input, input.length].map(BigInt);
-    exports.taprio_bounds_asked(BigInt(at.port), BigInt(values.frames), askedOf(values), ...texts, ...ends);
+    exports[ASKED[request.job]](BigInt(at.port), BigInt(values.frames), askedOf(values), ...texts, ...ends);
     return;
   }
   const [name, words] = CHOSEN[request.job]?.(request) ?? CALLS[request.job];
@@ -250,8 +253,8 @@ export function readMoments(module, words) {
  *
  * @param {WebAssembly.Module} module the port's
  * @param {{job: string, input: Uint8Array, beside: Uint8Array, values: object}} request the job, its input, what it has beside
- *   that (the script that goes among the frames of a table of streams, the capture of a replay, the table of streams of bounds or, where there is
- *   one, of frames), and the values of the options: numbers, moments as BigInt or
+ *   that (the script that goes among the frames of a table of streams, the capture of a replay, the network of paths, the table of streams of bounds or,
+ *   where there is one, of frames), and the values of the options: numbers, moments as BigInt or
  *   null, booleans, and classes as a mask or null
  * @returns {{status: number, output: Uint8Array, departures: Uint8Array, fault: string}} as the program would end, write, and say on
  *   its standard error; departures are the capture that a replay writes

@@ -209,7 +209,7 @@ def try_examples(page):
     for path in sorted(EXAMPLES.glob("*.script")):
         page.choose(path.name)
         try_script(page, path, *words_of(path, "from", "to"))
-    for path in sorted(EXAMPLES.glob("*.schedules")):
+    for path in sorted(it for it in EXAMPLES.glob("*.schedules") if not it.with_suffix(".network").exists()):
         page.choose(path.name)
         page.answers(path.name, program("check", *words_of(path, "windows"), text=path.read_bytes())[1])
     page.do("at('shares').checked = true")
@@ -822,6 +822,111 @@ def try_bounds(page):
         page.same(f"bounds of {text!r}", page.text("verdict")[: len(said)], said)
 
 
+def chosen_rows(page, name):
+    """The rows of a table of the page, each as its cells have it."""
+    return page.do(f"return [...document.querySelectorAll('#{name} tbody tr')].map((it) => [...it.cells].map((cell) => cell.textContent))")
+
+
+def choose_picture(page, place):
+    """Chooses a picture by its place in the list."""
+    page.do(f"at('which').value = '{place}'; at('which').dispatchEvent(new Event('change'))")
+    page.settle()
+
+
+CYCLE = "num_tc 8 map 0 1 2 3 4 5 6 7 base-time 0 sched-entry S 80 50000 sched-entry S 7f 200000"
+TWO_PORTS = f"tc qdisc replace dev a root taprio {CYCLE}\ntc qdisc replace dev b root taprio {CYCLE}\n"
+# Networks under these schedules: words of the options, what is said, how many paths have a bar, and the rows of the classes without bounds.
+NETWORKS = (
+    ("link a b 1us 2us\nclocks 100ns\nstream 1 7 60 250us 10us 1 deadline 100us via a b\nstream 2 5 200 1ms any 1 via a b\nstream 3 6 60 1ms any 1 via a\n", "",
+     "Bounds for 2 of 3 paths; not known: stream 2. Of these: every deadline is met, for ever. At b: class 5 has no bounds: it shares windows with class 6, above it,", 2,
+     [["b", "5", "no", "–", "–", "open to 6"]]),
+    ("link a b 1us\nstream 2 5 200 1ms any 1 deadline 1ns via a b\n", "6", "0 of 1 deadlines are met for ever; missed: stream 2.", 1, []),
+    ("port b mtu 100\nlink a b 1us\nstream 1 7 1000 1ms any 1 deadline 1ms via a b\n", "", "Bounds for 0 of 1 path; dropped: stream 1.", 0, []),
+    ("link a b 1us\nlink b a 1us\nstream 1 7 60 1ms any 1 via a b\nstream 2 7 60 1ms any 1 via b a\n", "",
+     "Bounds for 0 of 2 paths; not known: streams 1, 2. These depend on themselves, in a circle, or on such a class: a/7, b/7.", 0,
+     [["a", "7", "yes", "–", "–", "cyclic"], ["b", "7", "yes", "–", "–", "cyclic"]]),
+)
+
+
+def try_paths(page):
+    """The examples of paths against the program, their tables, their bars, and the schedule of each port; other networks, and faults."""
+    for name, paths, hops, ports in (("line", 3, 8, ["sw1", "sw2", "sw3"]), ("vehicle", 6, 12, ["front", "rear", "core"])):
+        page.choose(f"{name}.paths")
+        page.answers(f"{name}.paths", (EXAMPLES / f"{name}.paths").read_bytes())
+        page.same(f"verdict of {name}.paths", page.text("verdict"), "Every deadline is met, for ever.")
+        page.same(f"rows of {name}.paths", [len(chosen_rows(page, it)) for it in ("classes", "hops", "ports")], [paths, hops, 8 if name == "line" else 9])
+        page.same(f"bars of {name}.paths", page.do("return document.querySelectorAll('#canvas rect.f').length"), paths)
+        page.same(f"what the bars of {name}.paths count from", "at the first port" in page.text("picture-status"), True)
+        page.same(f"pictures of {name}.paths", page.do("return [...at('which').options].map((it) => it.textContent)"), ["all paths", *ports])
+        page.browser.shoot(SHOTS / f"{page.browser.name}-{name}.paths.png")
+        lines = [f"{it}\n" for it in re.sub(r" *\\\n *", " ", (EXAMPLES / f"{name}.schedules").read_text(encoding="utf-8")).split("\n") if it.startswith("tc")]
+        for place, line in enumerate(lines, 1):
+            choose_picture(page, place)
+            base = int(re.search(r"base-time (\d+)", line)[1])
+            change = re.search(rb"change (\d+)", program("script", text=line.encode())[1])[1].decode()
+            cycle = sum(map(int, re.findall(r"sched-entry S \w+ (\d+)", line))) * 1000
+            page.picture(f"the port {ports[place - 1]}, whose base time is {base}", line.encode(), "--from", change, "--to", str(int(change) + 2 * cycle))
+        page.do("const it = document.querySelector('#gates-line'); it.value = '1'; it.dispatchEvent(new Event('change'))")
+        page.settle()
+        page.same(f"the port of {name}.paths whose gates are chosen", page.do("return at('which').value"), "2")
+        choose_picture(page, 0)
+        page.same(f"bars of {name}.paths again", page.do("return document.querySelectorAll('#canvas rect.f').length"), paths)
+    page.choose("line.paths")
+    for network, silent, said, bars, without in NETWORKS:
+        page.set("silent", silent)
+        page.set("text", TWO_PORTS)
+        page.set("beside", network)
+        page.run()
+        with tempfile.NamedTemporaryFile() as file:
+            file.write(network.encode())
+            file.flush()
+            page.answers(f"paths of {network!r}", program("paths", *(["--silent", silent] if silent else []), file.name, text=TWO_PORTS.encode())[1])
+        page.same(f"verdict of {network!r}", page.text("verdict")[: len(said)], said)
+        page.same(f"bars of {network!r}", page.do("return document.querySelectorAll('#canvas rect.f').length"), bars)
+        page.same(f"classes of {network!r}", [it for it in chosen_rows(page, "ports") if it[-1] != "bounded"], without)
+    page.open(f"#job=paths&beside={packed(NETWORKS[0][0])}&text={packed(TWO_PORTS)}")
+    page.same("paths by a link", page.text("verdict")[:23], "Bounds for 2 of 3 paths")
+    page.open("")
+    try_faults_of_paths(page)
+
+
+# What is wrong with a network or with the schedules of its ports, what is said of it, and in which editor it is marked.
+FAULTS_OF_PATHS = (
+    ("link a b 1us\nlink a b 2us\n", TWO_PORTS, "Network: Line 2: SecondLink (line 1), a line before it has this link.", "beside"),
+    ("stream 1 7 60 1ms 0us 1 via a b\n", TWO_PORTS, "Network: Line 1: NoLink a b, no link leads from the first port to the second.", "beside"),
+    ("stream 1 7 60 1ms any 1 via a\n", TWO_PORTS, "Line 2: UnknownPort, the word behind dev is no port of the network.", "text"),
+    ("stream 1 7 60 1ms any 1 via a\n", "tc qdisc replace dev a root taprio\n", "Line 1: tc-fault NoEntries, it is no schedule command.", "text"),
+    ("stream 1 7 60 1ms any 1 via a\n", "\ntc qdisc replace dev a root taprio num_tc 1 map 0 sched-entry S 01 4\n", "Line 2: refused IntervalTooShort 0", "text"),
+)
+
+
+def try_faults_of_paths(page):
+    for network, schedules, said, field in FAULTS_OF_PATHS:
+        page.choose("line.paths")
+        page.set("text", schedules)
+        page.set("beside", network)
+        page.run()
+        page.same(f"fault of {network!r}", page.text("fault-text"), said)
+        page.same(f"where {said!r} is", page.do("return [at('text'), at('beside')].filter((it) => it.getAttribute('aria-invalid') === 'true').map((it) => it.id)"), [field])
+        page.same("what is expected", "link FROM TO TIME" in page.text("fault-hint"), True)
+    page.choose("line.paths")
+    page.set("beside", "")
+    page.run()
+    page.same("no streams", page.text("fault-text"), "Line 2: Uncrossed, no stream crosses this port.")
+    page.set("text", "")
+    page.run()
+    page.same("nothing", [page.text("verdict"), page.text("answers")], ["The network has no stream.", "apart none\n"])
+    # a network that is dropped goes beside the schedules, and a port that differs is drawn as it is
+    give(page, "slow.network", b"port a rate 100 mtu 100\nstream 1 7 60 1ms any 1 via a\n")
+    slow = "tc qdisc replace dev a root taprio num_tc 8 map 0 1 2 3 4 5 6 7 max-sdu 0 0 0 0 0 0 0 100 sched-entry S 80 50000 sched-entry S 7f 200000\n"
+    page.set("text", slow)
+    page.run()
+    page.same("a network from a file", [page.do("return [at('form').elements.job.value, at('beside').value.split('\\n')[0]]"), page.text("status")[:4]],
+              [["paths", "port a rate 100 mtu 100"], "Done"])
+    choose_picture(page, 1)
+    page.same("the picture of a slow port", page.do("return [at('frame').hidden, at('picture-status').textContent]"), [False, ""])
+
+
 # (a deadline is three pixels wide)
 COVERED = """const marks = [...document.querySelectorAll('#canvas .dl')].map((it) => it.getBBox());
     return [...document.querySelectorAll('#canvas .row text')].filter((it) => { const r = it.getBBox();
@@ -1062,8 +1167,30 @@ def try_compare_kept(page, text):
     page.same("brought back", page.do("return at('other').value"), OTHER)
 
 
+def try_compare_paths(page):
+    """A network under other schedules; and the schedule of a port, which is drawn alone."""
+    schedules = (EXAMPLES / "line.schedules").read_text(encoding="utf-8")
+    other = schedules.replace("sched-entry S 80 40000", "sched-entry S 80 500").replace("base-time 3000", "base-time 0")
+    page.choose("line.paths")
+    page.click("#compare")
+    page.set("other", other)
+    page.run()
+    wanted = program("paths", EXAMPLES / "line.network", text=other.encode())[1]
+    page.same("paths under other schedules", page.saved("save-other-answers"), wanted)
+    page.same("deadlines of paths under both", page.do(DIFFERENCES)[0], ["all", "Deadlines met, of 2 streams", "2", "1", "\u22121"])
+    page.same("bars of both", page.do("return ['canvas', 'other-canvas'].map((it) => document.querySelectorAll(`#${it} rect.f`).length)"), [3, 2])
+    choose_picture(page, 1)
+    page.same("a port beside other schedules", page.do("return [at('frame').hidden, at('other-view').hidden]"), [False, True])
+    line = re.sub(r" *\\\n *", " ", schedules).split("\n")[1].encode()
+    change = int(re.search(rb"change (\d+)", program("script", text=line)[1])[1])
+    page.picture("a port beside other schedules", line, "--from", str(change), "--to", str(change + 500_000_000))
+    page.set("other", f"{other}tc qdisc del dev sw1 root\n")
+    page.run()
+    page.same("a fault of other schedules", page.text("other-fault"), "Line 8: Deletion, a port whose gates are open has no line here.")
+
+
 def try_compare_jobs(page):
-    """Bounds, a table of streams and a replay under another schedule."""
+    """Bounds, paths, a table of streams and a replay under another schedule."""
     page.choose("drive.bounds")
     short = (EXAMPLES / "drive_short.schedule").read_text(encoding="utf-8")
     page.click("#compare")
@@ -1071,6 +1198,7 @@ def try_compare_jobs(page):
     page.run()
     page.same("bounds under the other schedule", page.saved("save-other-answers"), program("bounds", EXAMPLES / "drive.streams", text=short.encode())[1])
     page.same("deadlines under both", page.do(DIFFERENCES)[0], ["all", "Deadlines met, of 4 streams", "4", "2", "\u22122"])
+    try_compare_paths(page)
     page.choose("planned.streams")
     page.click("#compare")
     page.set("other", OTHER)
@@ -1719,7 +1847,7 @@ def try_tabs(page):
     """Each tab shows an example of its own; one's own text goes along where it can, and is there again where it can't."""
     tab = "document.querySelector('input[name=job][value={}]').click()"
     page.forget()
-    for name, example in (("bounds", "drive.bounds"), ("check", "windows.schedules"), ("streams", "planned.streams"), ("replay", "machine.pcap"), ("script", "first.script")):
+    for name, example in (("bounds", "drive.bounds"), ("paths", "line.paths"), ("check", "windows.schedules"), ("streams", "planned.streams"), ("replay", "machine.pcap"), ("script", "first.script")):
         page.do(tab.format(name))
         page.settle()
         page.same(f"the tab {name}", page.do("return [at('example').value, at('sentence').textContent !== '', at('view').classList.contains('stale'), at('frame').hidden]"), [example, True, False, False])
@@ -1986,7 +2114,7 @@ def try_looks(page):
     shoot(page, "replay")
 
 
-TRIES = [try_examples, try_replay, try_typing, try_options, try_worked, try_faults, try_refused, try_zoom, try_keys, try_micros, try_moments, try_frames, try_reasons, try_why, try_drops, try_tips, try_marks, try_pictures, try_rows, try_shades, try_whole, try_bounds, try_timing, try_sharing, try_linux, try_compare, try_gates, try_imports,
+TRIES = [try_examples, try_replay, try_typing, try_options, try_worked, try_faults, try_refused, try_zoom, try_keys, try_micros, try_moments, try_frames, try_reasons, try_why, try_drops, try_tips, try_marks, try_pictures, try_rows, try_shades, try_whole, try_bounds, try_paths, try_timing, try_sharing, try_linux, try_compare, try_gates, try_imports,
          try_story, try_tabs, try_kept, try_long, try_files, try_forgotten, try_dates, try_stale, try_live, try_link, try_stop, try_access, try_screens, try_sizes, try_looks]
 
 

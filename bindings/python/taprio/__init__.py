@@ -15,7 +15,8 @@ shared object alone. Calls may be made from several threads: they share nothing,
 
 `taprio.schedules` reads and writes schedules (times in nanoseconds), `Stream` is a stream of
 frames (times in nanoseconds), `run_streams` runs both, `frames` gives those of a script or a capture, `bounds` tells how long the frames of streams
-wait for ever, `read_run`, `read_frames`, `read_check` and `read_bounds` give what the jobs answer as objects, and `read_capture` reads a capture.
+wait for ever, `paths` how late they are through a network, `read_run`, `read_frames`, `read_check`, `read_bounds` and `read_paths` give what the
+jobs answer as objects, and `read_capture` reads a capture.
 `moment` reads a moment such as `12.303us`, over the shared object.
 """
 
@@ -37,9 +38,9 @@ from .library import Library, moment
 from .plotting import plot
 from .port import Port
 from .program import Backend, Program, backend
-from .results import read_bounds, read_check, read_frames, read_run
+from .results import read_bounds, read_check, read_frames, read_paths, read_run
 from .schedules import Schedule
-from .traffic import Stream, bounds, frames, run_streams, table
+from .traffic import Stream, bounds, frames, paths, run_streams, table
 
 __version__ = "0.2.0"
 
@@ -67,11 +68,13 @@ __all__ = [
     "draw",
     "frames",
     "moment",
+    "paths",
     "plot",
     "read_bounds",
     "read_capture",
     "read_check",
     "read_frames",
+    "read_paths",
     "read_run",
     "replay",
     "run",

@@ -10,7 +10,8 @@ __all__ = ["BadAnswer", "BadCapture", "BadInput", "BadSchedule", "BadValue", "Le
 
 BAD_VALUE, BAD_INPUT, NO_MEMORY, NO_ROOM = 2, 3, 4, 5
 _BEFORE = "taprio_port: "
-_PLACE = re.compile(r"(\w+) (\w+)(?: (\d+))?: (\w+)")
+# (a network's faults may name ports or another line behind their names, and its schedules' what a port answers before it)
+_PLACE = re.compile(r"(\w+) (\w+)(?: (\d+))?: (?:refused |tc-fault )?(\w+)(?: .+)?")
 
 
 def index(value: object) -> int | None:
@@ -50,9 +51,9 @@ class BadValue(TaprioError, ValueError):
 class BadInput(TaprioError, ValueError):
     """An input has a fault.
 
-    `input` is "script" (also for schedules), "table" or "capture". `line` is the number of the line, from 1, `record` that of a record
-    of a capture, from 0; both are None at a fault of a capture's header. `name` is the fault's name, and `output` what was told before
-    it: octets, or of a replay a `Replay`.
+    `input` is "script" (also for schedules), "table" or "capture", and of `paths` "network" or "schedules". `line` is the number of the
+    line, from 1, `record` that of a record of a capture, from 0; both are None at a fault of a capture's header. `name` is the fault's
+    name, also where a port refuses a schedule, and `output` what was told before it: octets, or of a replay a `Replay`.
     """
 
     def __init__(self, text: str, kind: str, line: int | None, record: int | None, name: str, output: bytes | Replay) -> None:

@@ -28,6 +28,7 @@ __all__ = [
     "draw",
     "frames",
     "moment",
+    "paths",
     "replay",
     "run",
     "streams",
@@ -95,8 +96,8 @@ _OF_PORT: dict[str, list[Any]] = {
 }
 
 # What a shared object lacks that was built before there were bounds, tables of frames, ports that are driven, late frames, lines of what
-# is shared, or bounds of classes that share.
-_LATER = ("taprio_streams_from", "taprio_bounds", "taprio_frames", "taprio_replay_stamped", "taprio_frames_by_stream", "taprio_frames_of_capture", "taprio_moment", "taprio_streams_late", "taprio_streams_drawn", "taprio_bounds_slack", "taprio_bounds_asked", "taprio_check_shares", *_OF_PORT)
+# is shared, bounds of classes that share, or paths.
+_LATER = ("taprio_streams_from", "taprio_bounds", "taprio_frames", "taprio_replay_stamped", "taprio_frames_by_stream", "taprio_frames_of_capture", "taprio_moment", "taprio_streams_late", "taprio_streams_drawn", "taprio_bounds_slack", "taprio_bounds_asked", "taprio_check_shares", "taprio_paths", *_OF_PORT)
 
 
 def _path() -> str:
@@ -139,6 +140,7 @@ def _typed(library: ctypes.CDLL) -> ctypes.CDLL:
         "taprio_bounds": [port, ctypes.c_uint64, *_OCTETS, *_OCTETS, *_LENT, *_LENT, ran],
         "taprio_bounds_slack": [port, ctypes.c_uint64, *_OCTETS, *_OCTETS, *_LENT, *_LENT, ran],
         "taprio_bounds_asked": [port, ctypes.c_uint64, ctypes.c_uint32, *_OCTETS, *_OCTETS, *_LENT, *_LENT, ran],
+        "taprio_paths": [port, ctypes.c_uint64, ctypes.c_uint32, *_OCTETS, *_OCTETS, *_LENT, *_LENT, ran],
         "taprio_draw": [port, picture, *_OCTETS, *_LENT, *_LENT, ran],
         "taprio_replay": [port, *_OCTETS, *_OCTETS, *_LENT, *_LENT, *_LENT, replay_ran],
         "taprio_replay_stamped": [port, ctypes.c_uint32, *_OCTETS, *_OCTETS, *_LENT, *_LENT, *_LENT, replay_ran],
@@ -234,6 +236,11 @@ def _class_of(value: Any) -> int:
     return given
 
 
+def _asked(classes: tuple[int, ...], leftovers: bool, slack: bool = False, why: bool = False) -> int:
+    """What is asked of bounds and of paths, as TAPRIO_SLACK, TAPRIO_LEFTOVERS, TAPRIO_WHY and TAPRIO_SILENT say it."""
+    return bool(slack) + 2 * bool(leftovers) + 4 * bool(why) + sum(256 << it for it in classes)
+
+
 def streams_or_capture(streams: Octets | None, capture: Octets | None) -> None:
     """Refuses a table of streams with a capture: a record has no id of a stream."""
     if streams is not None and capture is not None:
@@ -266,7 +273,7 @@ def _one(name: str, given: list[Any], guess: int) -> bytes:
     ran = _Ran()
     output, text = _call(name, given, ran, ["output", "fault"], guess)
     if ran.status:
-        raise of_text(ran.status, text.decode(), output)
+        raise of_text(ran.status, text.decode("utf-8", "replace"), output)
     return output
 
 
@@ -379,8 +386,30 @@ def bounds(
     guess = 4 * (len(table) + len(schedules)) + 4096
     if not classes and not leftovers and not why:
         return _one("taprio_bounds_slack" if slack else "taprio_bounds", [port, limit, *texts], guess)
-    asked = bool(slack) + 2 * bool(leftovers) + 4 * bool(why) + sum(256 << it for it in classes)
-    return _one("taprio_bounds_asked", [port, limit, asked, *texts], guess)
+    return _one("taprio_bounds_asked", [port, limit, _asked(classes, leftovers, slack, why), *texts], guess)
+
+
+def paths(
+    network: Octets,
+    schedules: Octets,
+    rate: int = 1000,
+    mtu: int = 1500,
+    room: int = 128,
+    frames: int = 1_000_000,
+    silent: Iterable[int] = (),
+    leftovers: bool = False,
+) -> bytes:
+    """Tells how long the frames of a network's streams take from end to end, for ever, with one schedule command for each port: what holds
+    of each port and its classes, how long each stream waits there, and how long it takes in all, with whether its deadline is met.
+
+    `rate`, `mtu` and `room` are those of `run`, for each port of which the network says nothing else; `frames`, `silent` and `leftovers` are
+    those of `bounds`, for every port. A deadline that is missed is no fault. `taprio.read_paths` reads what is told, and `taprio.paths` does
+    both.
+    """
+    network, schedules = octets(network), octets(schedules)
+    asked = _asked(silent_classes(silent), leftovers)
+    given = [ctypes.byref(_port(rate, mtu, room, None, False)), number(frames, 64, "frames"), asked, network, len(network), schedules, len(schedules)]
+    return _one("taprio_paths", given, 4 * (len(network) + len(schedules)) + 4096)
 
 
 def _beginning(begin: int | None) -> tuple[int, int]:
@@ -450,6 +479,7 @@ class Library:
     check = staticmethod(check)
     streams = staticmethod(streams)
     bounds = staticmethod(bounds)
+    paths = staticmethod(paths)
     draw = staticmethod(draw)
     replay = staticmethod(replay)
 

@@ -65,6 +65,19 @@ class Backend(Protocol):
         with `why` what its greatest wait is made of. The classes in `silent` send nothing, and with `leftovers` frames may wait from
         before the schedule."""
 
+    def paths(
+        self,
+        network: Octets,
+        schedules: Octets,
+        rate: int = 1000,
+        mtu: int = 1500,
+        room: int = 128,
+        frames: int = 1_000_000,
+        silent: Iterable[int] = (),
+        leftovers: bool = False,
+    ) -> bytes:
+        """How long the frames of a network's streams take from end to end, for ever, under the schedules of its ports."""
+
     def draw(
         self,
         script: Octets,
@@ -133,6 +146,13 @@ class Program:
         words += [] if until is None else ["--until", str(number(until, 128, "until"))]
         return words + (["--summary"] if summary else [])
 
+    @staticmethod
+    def _asked(frames: int, silent: Iterable[int], leftovers: bool) -> list[str]:
+        """What is asked of bounds and of paths."""
+        classes = silent_classes(silent)
+        words = ["--frames", str(number(frames, 64, "frames")), *(["--silent", ",".join(map(str, classes))] if classes else [])]
+        return words + (["--leftovers"] if leftovers else [])
+
     def run(
         self, script: Octets, rate: int = 1000, mtu: int = 1500, room: int = 128, until: int | None = None, summary: bool = False
     ) -> bytes:
@@ -198,11 +218,26 @@ class Program:
         why: bool = False,
     ) -> bytes:
         """Tells how long the frames of a table wait under each schedule, as `taprio.library.bounds` does."""
-        table, schedules, classes = octets(table), octets(schedules), silent_classes(silent)
-        words = ["bounds", *self._port(rate, mtu, room, None, False), "--frames", str(number(frames, 64, "frames"))]
-        words += ["--silent", ",".join(map(str, classes))] if classes else []
-        words += [*(["--leftovers"] if leftovers else []), *(["--slack"] if slack else []), *(["--why"] if why else [])]
+        table, schedules = octets(table), octets(schedules)
+        words = ["bounds", *self._port(rate, mtu, room, None, False), *self._asked(frames, silent, leftovers)]
+        words += [*(["--slack"] if slack else []), *(["--why"] if why else [])]
         return self._with_file([*words, "table"], "table", table, schedules)
+
+    def paths(
+        self,
+        network: Octets,
+        schedules: Octets,
+        rate: int = 1000,
+        mtu: int = 1500,
+        room: int = 128,
+        frames: int = 1_000_000,
+        silent: Iterable[int] = (),
+        leftovers: bool = False,
+    ) -> bytes:
+        """Tells how long the frames of a network's streams take from end to end, as `taprio.library.paths` does."""
+        network, schedules = octets(network), octets(schedules)
+        words = ["paths", *self._port(rate, mtu, room, None, False), *self._asked(frames, silent, leftovers)]
+        return self._with_file([*words, "network"], "network", network, schedules)
 
     def draw(
         self,

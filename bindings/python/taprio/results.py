@@ -1,5 +1,5 @@
 """What the jobs answer, as objects: `read_run` reads the answers of a script or the report of a replay, `read_frames` a table of frames,
-`read_check` the answers of a check, and `read_bounds` those of bounds.
+`read_check` the answers of a check, `read_bounds` those of bounds, and `read_paths` those of paths.
 
 Moments and times are whole picoseconds, sizes are octets. `rows()` gives dicts, for `pandas.DataFrame` or whatever else takes them."""
 
@@ -31,8 +31,12 @@ __all__ = [
     "Dropped",
     "Frame",
     "Frames",
+    "Hop",
     "Installed",
     "Left",
+    "PathBound",
+    "Paths",
+    "PortBounds",
     "Queued",
     "Refused",
     "Report",
@@ -46,6 +50,7 @@ __all__ = [
     "read_bounds",
     "read_check",
     "read_frames",
+    "read_paths",
     "read_run",
     "rows",
 ]
@@ -348,7 +353,10 @@ class ClassVerdict:
 
     Of a class that shares its windows there are also "open" where classes above it may send in them, and nothing else is known of these;
     "behind" where a class above it has streams and no bounds; and "blocked" where its longest frame fits into no window behind a frame of
-    another class that may have the wire when the window opens."""
+    another class that may have the wire when the window opens.
+
+    Of a class of a network's port there are also "cyclic" where it depends on itself, in a circle, or on such a class; and "unknown" where
+    it isn't known when the frames of one of its streams come."""
     most: int | None = None
     """The greatest number of frames that ever wait at once; for "bounded" and "within", as `room`. Where a class that is "within" has more
     than there is room, some may be dropped."""
@@ -475,6 +483,76 @@ class Bounds:
     def class_rows(self) -> list[dict[str, Any]]:
         """A dict of each class that has streams, with the number of its schedule, from 0."""
         return [{"schedule": number} | row for number, it in enumerate(self.schedules) for row in rows(it.classes)]
+
+
+@dataclasses.dataclass(frozen=True)
+class PortBounds:
+    """What was told of a port of a network: the classes that its schedule keeps apart, and the verdict about each class that has streams."""
+
+    name: str | None
+    """None of the one port of a network that names none."""
+    apart: tuple[int, ...]
+    classes: tuple[ClassVerdict, ...] = ()
+    silent: tuple[int, ...] = ()
+    """The classes that are taken to send nothing: those of which it was said, and that have no streams there."""
+
+
+@dataclasses.dataclass(frozen=True)
+class Hop:
+    """How long the frames of a stream wait at a port of their way, in picoseconds. Where it is known when they come the times count from the
+    earliest moment at which a frame may come, and else from its arrival there."""
+
+    first_id: int
+    """The first id of the stream."""
+    port: str | None
+    """The name of the port; None of a network's one port that has none."""
+    traffic_class: int
+    least_wait: int
+    greatest_wait: int
+
+
+@dataclasses.dataclass(frozen=True)
+class PathBound:
+    """When the frames of a stream have left the last port of their way, the gap behind them included; in picoseconds from their nominal
+    moment at the first port, or of those with the offset `any` from their arrival there."""
+
+    first_id: int
+    """The first id of the stream."""
+    verdict: str
+    """"within" where the two ends are there; "none" where a port drops frames of the stream; "unknown" where its class has no bounds at a
+    port, whose verdict about the class says why."""
+    least_end: int | None = None
+    greatest_end: int | None = None
+    deadline: int | None = None
+    """Its deadline, in picoseconds; None where it has none, or the ends are not there."""
+    met: bool | None = None
+    """Whether each frame has left by the deadline; None where that isn't known, or there is no deadline."""
+    at: str | None = None
+    """For "none" and "unknown", the name of that port, where it has one."""
+
+
+@dataclasses.dataclass(frozen=True)
+class Paths:
+    """What was told of a network: its ports, a port behind those whose frames it gets, the waits of each stream at the ports of its way, and
+    its way from end to end."""
+
+    ports: tuple[PortBounds, ...]
+    hops: tuple[Hop, ...] = ()
+    paths: tuple[PathBound, ...] = ()
+    cyclic: tuple[tuple[str, int], ...] = ()
+    """The classes that depend on themselves, in a circle, or on such a class, each with the name of its port."""
+
+    def rows(self) -> list[dict[str, Any]]:
+        """A dict of each way: `pandas.DataFrame(paths.rows())`."""
+        return rows(self.paths)
+
+    def hop_rows(self) -> list[dict[str, Any]]:
+        """A dict of each wait of a stream at a port of its way."""
+        return rows(self.hops)
+
+    def class_rows(self) -> list[dict[str, Any]]:
+        """A dict of each class that has streams, with the name of its port."""
+        return [{"port": port.name} | row for port in self.ports for row in rows(port.classes)]
 
 
 def _wait(text: str) -> int | None:
@@ -889,3 +967,104 @@ def read_bounds(answers: Octets) -> Bounds:
                 raise BadAnswer(f"line {number}: expected an answer of bounds, found {line[:60]!r}", number)
             found.append(Bounded(None, fault=answer))
     return Bounds(tuple(found))
+
+
+_PORT = re.compile(r"port ([^ /]+)")
+_UNHEARD = re.compile(r"class (\d) (cyclic|unknown)")
+_HOP = re.compile(r"hop (\d+)(?: ([^ /]+))? class (\d) within (\d+) to (\d+)")
+_PATH = re.compile(r"path (\d+) end (\d+) to (\d+)(?: deadline (\d+) (met|missed|unknown))?")
+_STOP = re.compile(r"path (\d+) (none|unknown)(?: at ([^ /]+))?")
+_CYCLIC = re.compile(r"cyclic(?: [^ /]+/\d)+")
+
+
+def _hop(found: re.Match[str]) -> Hop:
+    """The wait of a line about a stream at a port."""
+    first_id, port, class_, least, greatest = found.groups()
+    return Hop(int(first_id), port, int(class_), int(least), int(greatest))
+
+
+def _path(found: re.Match[str]) -> PathBound:
+    """The ends of a line about a way that goes to its end."""
+    first_id, least, greatest, deadline, met = found.groups()
+    return PathBound(int(first_id), "within", int(least), int(greatest), _number(deadline), {"met": True, "missed": False}.get(met))
+
+
+def _circles(line: str) -> tuple[tuple[str, int], ...]:
+    """The classes of a line about circles."""
+    return tuple((name, int(class_)) for name, _, class_ in (word.partition("/") for word in line.split(" ")[1:]))
+
+
+class _PathsReader:
+    """Reads what paths tell, line by line: ports, circles, and the ways with their hops, in this order."""
+
+    def __init__(self) -> None:
+        self.ports: list[PortBounds] = []
+        self.name: str | None = None
+        self.is_named = False
+        self.cyclic: tuple[tuple[str, int], ...] = ()
+        self.hops: list[Hop] = []
+        self.paths: list[PathBound] = []
+
+    def take(self, line: str) -> bool:
+        """Takes a line, where it may stand there."""
+        if self._take_way(line):
+            return True
+        return not (self.cyclic or self.hops or self.paths) and (self._take_head(line) or self._take_of_port(line))
+
+    def _take_head(self, line: str) -> bool:
+        """The lines with which a port begins: its name, which only an only port lacks, and what its schedule keeps apart."""
+        port, apart = _PORT.fullmatch(line), _APART.fullmatch(line)
+        if port and not self.is_named and (self.name or not self.ports):
+            self.name, self.is_named = port[1], True
+        elif apart and (self.is_named or not self.ports):
+            self.ports.append(PortBounds(self.name, () if apart[1] == "none" else _classes(apart[1])))
+            self.is_named = False
+        else:
+            return False
+        return True
+
+    def _take_of_port(self, line: str) -> bool:
+        """What is told of the last port."""
+        if not self.ports or self.is_named:
+            return False
+        last = self.ports[-1]
+        silent, verdict, unheard, cyclic = (form.fullmatch(line) for form in (_SILENT, _CLASS, _UNHEARD, _CYCLIC))
+        if silent and not last.silent and not last.classes:
+            self.ports[-1] = dataclasses.replace(last, silent=_classes(silent[1]))
+        elif verdict:
+            self.ports[-1] = dataclasses.replace(last, classes=(*last.classes, _verdict(verdict)))
+        elif unheard:
+            self.ports[-1] = dataclasses.replace(last, classes=(*last.classes, ClassVerdict(int(unheard[1]), unheard[2])))
+        elif cyclic:
+            self.cyclic = _circles(line)
+        else:
+            return False
+        return True
+
+    def _take_way(self, line: str) -> bool:
+        """What is told of a stream."""
+        if not self.ports or self.is_named:
+            return False
+        hop, path, stop = (form.fullmatch(line) for form in (_HOP, _PATH, _STOP))
+        if hop:
+            self.hops.append(_hop(hop))
+        elif path:
+            self.paths.append(_path(path))
+        elif stop:
+            self.paths.append(PathBound(int(stop[1]), stop[2], at=stop[3]))
+        else:
+            return False
+        return True
+
+
+def read_paths(answers: Octets) -> Paths:
+    """What paths tell of a network. A text that no paths write raises `BadAnswer`."""
+    reader = _PathsReader()
+    text = octets(answers).decode("utf-8", "replace").replace("\r\n", "\n")
+    lines = text.removesuffix("\n").split("\n")
+    for number, line in enumerate(lines, 1):
+        if not reader.take(line):
+            raise BadAnswer(f"line {number}: expected an answer of paths, found {line[:60]!r}", number)
+    if reader.is_named:
+        raise BadAnswer(f"line {len(lines) + 1}: expected what port {reader.name} keeps apart, found the end", len(lines) + 1)
+    return Paths(tuple(reader.ports), tuple(reader.hops), tuple(reader.paths), reader.cyclic)

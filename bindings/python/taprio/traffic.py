@@ -1,19 +1,19 @@
-"""Streams of frames, a run of a schedule with them, the frames of a run, and the bounds of their waits under a schedule."""
+"""Streams of frames, a run of a schedule with them, the frames of a run, and the bounds of their waits, at a port and through a network."""
 
 from __future__ import annotations
 
 import dataclasses
-from collections.abc import Iterable
+from collections.abc import Iterable, Mapping
 from typing import Optional, Union
 
 from .faults import BadValue, index
 from .jobs import lines
 from .library import Octets, octets
 from .program import Chosen, backend
-from .results import Bounds, Frames, Run, of_answers, read_bounds, read_frames
-from .schedules import Schedule
+from .results import Bounds, Frames, Paths, Run, of_answers, read_bounds, read_frames, read_paths
+from .schedules import Configured, Schedule
 
-__all__ = ["Stream", "bounds", "frames", "run_streams", "table"]
+__all__ = ["Stream", "bounds", "frames", "paths", "run_streams", "table"]
 
 GREATEST = 9_223_372_036_854_775_807
 """The greatest moment, in nanoseconds."""
@@ -191,3 +191,36 @@ def bounds(
     the answer are picoseconds."""
     told = backend(port).bounds(_table(streams), lines(schedule), rate=rate, mtu=mtu, room=room, frames=frames, slack=slack, silent=silent, leftovers=leftovers, why=why)
     return read_bounds(told)
+
+
+def _of_ports(schedules: Union[Mapping[str, Union[Schedule, Configured]], Octets]) -> bytes:
+    """The schedules of ports as lines; lines as they are."""
+    if not isinstance(schedules, Mapping):
+        return octets(schedules)
+    plain = {name: it.schedule if isinstance(it, Configured) else it for name, it in schedules.items()}
+    return "".join(f"{it.tc(name)}\n" for name, it in plain.items()).encode()
+
+
+def paths(
+    network: Octets,
+    schedules: Union[Mapping[str, Union[Schedule, Configured]], Octets],
+    *,
+    rate: int = 1000,
+    mtu: int = 1500,
+    room: int = 128,
+    frames: int = 1_000_000,
+    silent: Iterable[int] = (),
+    leftovers: bool = False,
+    port: Chosen = None,
+) -> Paths:
+    """How late the frames of a network's streams are, at each port of their way and at its end, for ever, and whether their deadlines are met.
+
+    `network` is a text: its ports, its links, and its streams with their ways. `schedules` has the schedule of each port by its name, or is
+    their `tc` lines, in which the word behind `dev` is the port. A port without a schedule has its gates open. Base times say how the
+    cycles of the ports lie to one another.
+
+    `rate`, in Mb/s, `mtu`, in octets, and `room`, in frames of a class, are those of each port of which the network says nothing else.
+    `frames`, `silent` and `leftovers` are as for `bounds`, at every port. A line that has a fault, and a schedule that its port refuses,
+    raises `BadInput`. What runs it is `port`, as `taprio.backend` says. Times of the answer are picoseconds."""
+    told = backend(port).paths(network, _of_ports(schedules), rate=rate, mtu=mtu, room=room, frames=frames, silent=silent, leftovers=leftovers)
+    return read_paths(told)

@@ -11,6 +11,7 @@ import taprio
 FAULTS = [
     taprio.BadValue("bad value of --mtu", "--mtu"),
     taprio.BadInput("script line 3: UnknownLine", "script", 3, None, "UnknownLine", b"queued 1 class 0\n"),
+    taprio.BadInput("network line 2: SecondLink (line 1)", "network", 2, None, "SecondLink", b""),
     taprio.BadInput("capture record 0: ShortRecord", "capture", None, 0, "ShortRecord", taprio.Replay(b"a", b"b")),
     taprio.BadSchedule("line 3", "an interval in nanoseconds", "300us"),
     taprio.LibraryMissing("the library can't be loaded"),

@@ -24,6 +24,13 @@ STREAM = "stream 1 1 60 250us 60us 1 deadline 200us\n"
 TOGETHER = "tc qdisc replace dev eth0 root taprio num_tc 2 map 0 1 base-time 0 sched-entry S 3 50000 sched-entry S 0 50000\n"
 ALONE = "class 0 within most 1 of 128\nbound 2 class 0 within 0 to 50671999 end 672000 to 51343999 deadline 1000000000 met\n"
 ABOVE = "class 1 within most 1 of 128\nbound 1 class 1 within 0 to 63007998 end 672000 to 63679998\n"
+NETWORK = """\
+link a b 1us 2us
+stream 1 1 60 250us 60us 1 deadline 200us via a b
+stream 2 0 60 1ms any 1 via b
+"""
+PORT_A = SCHEDULE.replace("eth0", "a")
+PORTS = PORT_A + TOGETHER.replace("eth0", "b")
 BOUNDED = b"""\
 apart 0 1
 class 1 most 1 of 128 frames 1 every 250000000
@@ -204,6 +211,75 @@ class BoundsAsked:
             with self.subTest(table=table, asked=asked):
                 self.assertEqual(self.port.bounds(table, TOGETHER, **asked).decode(), f"apart none\n{wanted}")
         self.assertEqual(self.port.bounds("", f"tc qdisc del dev eth0 root\n{TOGETHER}", silent=range(8)), b"apart none\napart none\nsilent 0 1 2 3 4 5 6 7\n")
+
+
+class Paths:
+    """What is asked of the library where it has the call, and of the program."""
+
+    def test_paths(self):
+        told = self.port.paths(NETWORK, PORTS)
+        self.assertTrue(told.startswith(b"port a\napart 0 1\nclass 1 within most 1 of 128\nport b\napart none\nclass 0 within most 1 of 128\n"), told)
+        self.assertIn(b"hop 1 a class 1 within 190000000 to 190000000\n", told)
+        self.assertEqual(self.port.paths(bytearray(NETWORK, "ascii"), PORTS, 1000, 1500, 128, 1_000_000), told)
+        self.assertIn(b"class 1 within most 1 of 5\n", self.port.paths(NETWORK, PORTS, room=5))
+        self.assertIn(b"class 1 within most 1 of 9\n", self.port.paths(f"port a room 9\n{NETWORK}", PORTS, room=5))
+        self.assertNotEqual(self.port.paths(NETWORK, PORTS, rate=100), told)
+        self.assertEqual(self.port.paths("stream 2 0 200 1ms any 1", "", mtu=100), b"apart none\npath 2 none\n")
+        self.assertIn(b"class 0 long\n", self.port.paths("stream 2 0 60 3us any 1\n", SCHEDULE, frames=3))
+        self.assertEqual(self.port.paths("", ""), b"apart none\n")
+        for name in ("line", "vehicle"):
+            self.assertEqual(self.port.paths(octets(f"{name}.network"), octets(f"{name}.schedules")), octets(f"{name}.paths"))
+
+    def test_what_is_asked_of_paths(self):
+        """Silent classes and leftovers, alone and together."""
+        low, both = "stream 2 0 60 1ms any 1\n", "stream 2 0 60 1ms any 1\nstream 1 1 60 1ms any 1\n"
+        alone = "class 0 within most 1 of 128\nhop 2 class 0 within 0 to 50671999\npath 2 end 672000 to 51343999\n"
+        for network, asked, wanted in (
+            (low, {}, "apart none\nclass 0 open to 1\npath 2 unknown\n"),
+            (low, {"silent": [1]}, f"apart none\nsilent 1\n{alone}"),
+            (low, {"silent": (7, 1), "leftovers": True}, f"apart none\nsilent 1 7\n{alone}"),
+            (low, {"silent": {0}}, "apart none\nclass 0 open to 1\npath 2 unknown\n"),
+            (both, {"leftovers": True}, "apart none\nclass 0 open to 1\nclass 1 within most 1 of 128\npath 2 unknown\n"
+             "hop 1 class 1 within 0 to 63007998\npath 1 end 672000 to 63679998\n"),
+        ):
+            with self.subTest(network=network, asked=asked):
+                self.assertEqual(self.port.paths(network, TOGETHER, **asked).decode(), wanted)
+
+    def test_faults_of_paths(self):
+        brief = "tc qdisc replace dev a root taprio num_tc 1 map 0 sched-entry S 01 4\n"
+        for network, schedules, found, text in (
+            ("port a/b\n", "", ("network", 1, "BadName"), "network line 1: BadName"),
+            (f"{NETWORK}link a b 1us\n", "", ("network", 4, "SecondLink"), "network line 4: SecondLink (line 1)"),
+            ("stream 1 7 60 1ms 0us 1 via a b\n", "", ("network", 1, "NoLink"), "network line 1: NoLink a b"),
+            (b"stream 1 7 60 1ms 0us 1 via \xff \xff\n", "", ("network", 1, "PortTwice"), "network line 1: PortTwice \ufffd"),
+            ("stream 1 7 60 0ms 0us 1\n", "", ("network", 1, "BadNumber"), "network line 1: BadNumber"),
+            (NETWORK, f"{PORTS}clock 5\n", ("schedules", 3, "UnknownLine"), "schedules line 3: UnknownLine"),
+            (NETWORK, f"{PORT_A}{PORT_A}", ("schedules", 2, "SecondSchedule"), "schedules line 2: SecondSchedule (line 1)"),
+            (NETWORK, "tc qdisc replace dev a root taprio sched-entry\n", ("schedules", 1, "MissingWord"), "schedules line 1: tc-fault MissingWord sched-entry"),
+            (NETWORK, brief, ("schedules", 1, "IntervalTooShort"), "schedules line 1: refused IntervalTooShort 0"),
+        ):
+            with self.subTest(found), self.assertRaises(taprio.BadInput) as raised:
+                self.port.paths(network, schedules)
+            fault = raised.exception
+            self.assertEqual((fault.input, fault.line, fault.name), found)
+            self.assertEqual((str(fault), fault.output), (text, b""))
+
+    def test_values_of_paths(self):
+        for option, values in (
+            ("--rate", {"rate": 1001}),
+            ("--mtu", {"mtu": 9217}),
+            ("--room", {"room": 0}),
+            ("--frames", {"frames": 0}),
+            ("--frames", {"frames": 2**64 + 1}),
+            ("--silent", {"silent": (8,)}),
+            ("--silent", {"silent": (6, 6), "leftovers": True}),
+        ):
+            with self.subTest(values), self.assertRaises(taprio.BadValue) as raised:
+                self.port.paths("", "", **values)
+            self.assertEqual(raised.exception.option, option)
+        for values in ({"frames": 1.0}, {"silent": 6}):
+            with self.subTest(values), self.assertRaises(TypeError):
+                self.port.paths("", "", **values)
 
 
 class Examples:
@@ -389,6 +465,8 @@ class OverTheLibrary(Examples, Faults, Room, unittest.TestCase):
             for asked in ({"silent": (7,)}, {"leftovers": True}):
                 with self.assertRaisesRegex(taprio.LibraryMissing, "no taprio_bounds_asked: build it again"):
                     taprio.library.bounds("", "", **asked)
+            with self.assertRaisesRegex(taprio.LibraryMissing, "no taprio_paths: build it again"):
+                taprio.library.paths("", "")
 
 
 @support.wants_library
@@ -400,6 +478,12 @@ class BoundsOverTheLibrary(Bounds, unittest.TestCase):
 @support.wants_library
 @unittest.skipUnless(support.HAS_BOUNDS_ASKED, "this library has no taprio_bounds_asked: build it again with bindings/c/build")
 class BoundsAskedOverTheLibrary(BoundsAsked, unittest.TestCase):
+    port = taprio.Library()
+
+
+@support.wants_library
+@unittest.skipUnless(support.HAS_PATHS, "this library has no taprio_paths: build it again with bindings/c/build")
+class PathsOverTheLibrary(Paths, unittest.TestCase):
     port = taprio.Library()
 
 
@@ -435,7 +519,7 @@ class Moments(unittest.TestCase):
 
 
 @support.wants_program
-class OverTheProgram(Examples, Faults, Room, Bounds, BoundsAsked, Frames, FramesByStream, FramesOfCapture, unittest.TestCase):
+class OverTheProgram(Examples, Faults, Room, Bounds, BoundsAsked, Paths, Frames, FramesByStream, FramesOfCapture, unittest.TestCase):
     port = taprio.Program(support.PROGRAM or "taprio_port")
 
     def test_no_program(self):

@@ -654,6 +654,146 @@ silent
                 self.assertEqual((found.finding, found.met), (finding, finding is None))
 
 
+class Paths(unittest.TestCase):
+    def told(self, *lines):
+        return taprio.read_paths("".join(f"{line}\n" for line in lines))
+
+    def test_kinds(self):
+        """Each line, of ports with names; the verdicts about classes are those of bounds, and two more."""
+        found = self.told(
+            "port a", "apart 6 7", "silent 3 4", "class 5 open to 6", "class 6 behind 7", "class 7 within most 1 of 128",
+            "port class", "apart none", "class 5 unknown", "class 6 cyclic", "class 7 overloaded",
+            "cyclic class/6 a/5",
+            "hop 1 a class 7 within 0 to 12", "hop 1 class class 7 within 3 to 4", "path 1 end 5 to 60 deadline 60 met",
+            "hop 2 a class 7 within 0 to 12", "path 2 end 5 to 60",
+            "hop 3 a class 7 within 0 to 12", "path 3 none at class",
+            "path 4 unknown at a",
+            "hop 5 a class 7 within 0 to 12", "path 5 end 5 to 60 deadline 4 missed",
+            "hop 6 a class 7 within 0 to 12", "path 6 end 5 to 60 deadline 50 unknown",
+        )  # fmt: skip
+        self.assertEqual(
+            found.ports,
+            (
+                results.PortBounds(
+                    "a",
+                    (6, 7),
+                    (
+                        results.ClassVerdict(5, "open", open_to=(6,)),
+                        results.ClassVerdict(6, "behind", behind=7),
+                        results.ClassVerdict(7, "within", 1, 128),
+                    ),
+                    (3, 4),
+                ),
+                results.PortBounds(
+                    "class", (), (results.ClassVerdict(5, "unknown"), results.ClassVerdict(6, "cyclic"), results.ClassVerdict(7, "overloaded"))
+                ),
+            ),
+        )
+        self.assertEqual(found.cyclic, (("class", 6), ("a", 5)))
+        self.assertEqual(found.hops[:2], (results.Hop(1, "a", 7, 0, 12), results.Hop(1, "class", 7, 3, 4)))
+        self.assertEqual([it.first_id for it in found.hops], [1, 1, 2, 3, 5, 6])
+        self.assertEqual(
+            found.paths,
+            (
+                results.PathBound(1, "within", 5, 60, 60, True),
+                results.PathBound(2, "within", 5, 60),
+                results.PathBound(3, "none", at="class"),
+                results.PathBound(4, "unknown", at="a"),
+                results.PathBound(5, "within", 5, 60, 4, False),
+                results.PathBound(6, "within", 5, 60, 50),
+            ),
+        )
+        self.assertEqual(
+            found.rows()[0],
+            {"first_id": 1, "verdict": "within", "least_end": 5, "greatest_end": 60, "deadline": 60, "met": True, "at": None},
+        )
+        self.assertEqual(found.hop_rows()[1], {"first_id": 1, "port": "class", "traffic_class": 7, "least_wait": 3, "greatest_wait": 4})
+        self.assertEqual([(it["port"], it["traffic_class"]) for it in found.class_rows()], [(name, class_) for name in ("a", "class") for class_ in (5, 6, 7)])
+
+    def test_a_port_without_a_name(self):
+        found = self.told("apart none", "class 7 within most 1 of 128", "hop 1 class 7 within 0 to 9", "path 1 end 6 to 15", "path 2 unknown", "path 3 none")
+        self.assertEqual(found.ports, (results.PortBounds(None, (), (results.ClassVerdict(7, "within", 1, 128),)),))
+        self.assertEqual(found.hops, (results.Hop(1, None, 7, 0, 9),))
+        self.assertEqual([(it.verdict, it.at) for it in found.paths], [("within", None), ("unknown", None), ("none", None)])
+
+    def test_examples(self):
+        """Each line of the examples is read."""
+        for name, ports, ways in (("line", ["sw1", "sw2", "sw3"], [1, 2, 3]), ("vehicle", ["front", "rear", "core"], [1, 2, 11, 12, 21, 22])):
+            with self.subTest(name):
+                found = taprio.read_paths(octets(f"{name}.paths"))
+                self.assertEqual(([it.name for it in found.ports], [it.first_id for it in found.paths]), (ports, ways))
+                lines = 2 * len(found.ports) + len(found.class_rows()) + len(found.hops) + len(found.paths)
+                self.assertEqual(lines, octets(f"{name}.paths").count(b"\n"))
+
+    def test_no_answers(self):
+        for lines, line in (
+            ([], 1),
+            (["port a"], 2),
+            (["port a/b"], 1),
+            (["port a", "port b"], 2),
+            (["port a", "class 1 long"], 2),
+            (["apart none", "apart none"], 2),
+            (["apart none", "port a"], 2),
+            (["port a", "apart none", "apart 1"], 3),
+            (["port a", "apart none", "class 1 most 1"], 3),
+            (["apart none", "class 1 long", "silent 2"], 3),
+            (["apart none", "silent 1", "silent 2"], 3),
+            (["apart none", "cyclic"], 2),
+            (["apart none", "cyclic a"], 2),
+            (["apart none", "path 1 end 3"], 2),
+            (["apart none", "path 1 end 3 to 4 deadline 5"], 2),
+            (["apart none", "path 1 none", "class 1 long"], 3),
+            (["apart none", "cyclic a/1", "class 1 long"], 3),
+            (["apart none", "hop 1 a class 1 within 0"], 2),
+            (["hop 1 a class 1 within 0 to 5"], 1),
+            (["apart none", "bound 1 class 1 none"], 2),
+            (["refused MapMissing"], 1),
+        ):
+            with self.subTest(lines), self.assertRaises(taprio.BadAnswer) as raised:
+                self.told(*lines)
+            self.assertEqual(raised.exception.line, line)
+
+    @support.wants_paths
+    def test_a_network(self):
+        """Schedules by the names of their ports, and as lines; a port that has none; and the values of the ports."""
+        network = "link a b 1us\nlink b c 1us\nstream 1 6 60 250us 60us 1 deadline 1ms via a b c\n"
+        later = dataclasses.replace(LOOP, base_time=1_608)
+        given = {"a": LOOP, "b": taprio.schedules.Configured(later, "eth0", "oper", "line 1")}
+        found = taprio.paths(network, given, silent=(7,), port=support.PATHS)
+        self.assertEqual(found, taprio.paths(network, f"{LOOP.tc('a')}\n{later.tc('b')}\n", silent=(7,), port=support.PATHS))
+        self.assertEqual([(it.name, it.apart) for it in found.ports], [("a", (0, 1)), ("b", (0, 1)), ("c", ())])
+        self.assertEqual([(it.port, it.traffic_class) for it in found.hops], [("a", 1), ("b", 1), ("c", 6)])
+        self.assertEqual([(it.verdict, it.met) for it in found.paths], [("within", True)])
+        self.assertEqual([(it.silent, it.classes[0].verdict) for it in found.ports], [((7,), "within")] * 3)
+        slow = taprio.paths(network, given, silent=[7], rate=100, mtu=1000, room=7, port=support.PATHS)
+        self.assertEqual({it.room for port in slow.ports for it in port.classes}, {7})
+        self.assertLess(found.paths[0].greatest_end, slow.paths[0].greatest_end)
+        self.assertEqual([it.at for it in taprio.paths(network, given, port=support.PATHS).paths], ["c"])
+        self.assertEqual(taprio.paths("stream 1 0 60 3us any 1\n", LOOP.tc(), frames=3, port=support.PATHS).ports[0].classes[0].verdict, "long")
+        with self.assertRaises(taprio.BadInput):
+            taprio.paths(network, {"d": LOOP}, port=support.PATHS)
+        with self.assertRaises(TypeError):
+            taprio.paths(network, None, port=support.PATHS)
+
+    @support.wants_paths
+    def test_a_circle(self):
+        network = "link a b 1us\nlink b a 1us\nstream 1 7 60 1ms any 1 deadline 1ms via a b\nstream 2 7 60 1ms any 1 via b a\n"
+        found = taprio.paths(network, {}, port=support.PATHS)
+        self.assertEqual(found.cyclic, (("a", 7), ("b", 7)))
+        self.assertEqual({it.verdict for port in found.ports for it in port.classes}, {"cyclic"})
+        self.assertEqual([(it.verdict, it.at) for it in found.paths], [("unknown", "a"), ("unknown", "b")])
+
+    @support.wants_paths
+    def test_one_port_as_bounds(self):
+        """With one port, and a talker that follows no clock, the times are those of bounds."""
+        for length in (60, 64, 300, 1500):
+            alarm = taprio.Stream(9, 6, length, 250_000, None)
+            one = taprio.bounds(LOOP, [alarm], port=support.PATHS).schedules[0].streams[0]
+            way = taprio.paths(taprio.table([alarm]), {"eth0": LOOP}, port=support.PATHS)
+            self.assertEqual(way.hops, (results.Hop(9, None, 1, one.least_wait, one.greatest_wait),))
+            self.assertEqual(way.paths, (results.PathBound(9, "within", one.least_end, one.greatest_end),))
+
+
 class Streams(unittest.TestCase):
     def test_tables(self):
         self.assertEqual(CONTROL.line(), "stream 1 6 64 250000ns 1000000ns 4")
