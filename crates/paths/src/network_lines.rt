@@ -177,6 +177,23 @@ fn tell_open<H: Watch>(names: &[Name], kept: &[PortSchedule], watch: &mut H) {
     }
 }
 
+/// Answers about a network with these schedules, once it is told which ports have none.
+fn answer_told<W: Write, H: Watch>(
+    alloc: Global,
+    settings: &BoundsSettings,
+    target: Option<usize>,
+    network: &Network<Global>,
+    kept: &[PortSchedule],
+    writer: &mut W,
+    watch: &mut H,
+) -> Result<(), PathsFault>
+    ensures { IsPortsRun result settings.now target (seen network.now) kept.now
+        (W.contents writer.old) (W.contents writer.new) }
+{
+    tell_open(network.names.as_slice(), kept, watch);
+    answer_schedules(alloc, settings, target, network, kept, writer)
+}
+
 /// Reads the schedules of a network that are to come, and answers about them.
 fn answer_network<A: Allocator, S: Read + Drop, W: Write, H: Watch>(
     alloc: Global,
@@ -197,10 +214,15 @@ fn answer_network<A: Allocator, S: Read + Drop, W: Write, H: Watch>(
     };
     let mut kept = Vec::new(alloc);
     match read_schedules(&mut kept, network, schedules, watch) {
-        Ok(()) => {
-            tell_open(network.names.as_slice(), kept.as_slice(), watch);
-            answer_schedules(alloc, settings, target, network, kept.as_slice(), writer)
-        }
+        Ok(()) => answer_told(
+            alloc,
+            settings,
+            target,
+            network,
+            kept.as_slice(),
+            writer,
+            watch,
+        ),
         Err(fault) => Err(schedules_fault(fault)),
     }
 }

@@ -13,7 +13,7 @@ returns-in_default g c = λ read is.
 pub returns-in-Ok : goal.returns-in-Ok
 returns-in-Ok g c = λ read is.
     let told = rw c.new-kept.ensures.items at (c.in-Ok.ensures read is) in
-    let run = rw c.as_slice.ensures.value at c.answer_schedules.ensures in
+    let run = rw c.as_slice.ensures.value at c.answer_told.ensures in
     map_some _ _ (script_left g.S.Read.remaining c.args.schedules.now)
     (λ script said. with_schedules c.args.settings.now _ (octets_of c.args.next) read (seen c.args.network.now) script c.in-Some.target
     (sym c.target_in.ensures ∙ c.in-Some.is) _ _ c.read_schedules.new.kept.items said run) told
