@@ -1,8 +1,12 @@
 mod AnsweredLaws
 mod ApartLaws
+mod BuiltLaws
 mod EarlierLaws
 mod EndLaws
+mod FullLaws
+mod GivenLaws
 mod LinkedLaws
+mod OnceLaws
 mod PathLaws
 mod SoundLaws
 mod TakenLaws

@@ -47,7 +47,7 @@ class_is (Ok d) class e = ap (λ (n : ℕ). Ok n) (same_Some d class e)
 class_is (Err why) class e = absurd (none-some class e)
 
 -- what holds of each hop of a class
-own_all : (p class : ℕ) (P : Hop → Type 0) (hops : List Hop) → ((k : ℕ) (h : Hop) → slice_get hops k ≡ Some h → is_own p class h ≡ true → P h)
+pub own_all : (p class : ℕ) (P : Hop → Type 0) (hops : List Hop) → ((k : ℕ) (h : Hop) → slice_get hops k ≡ Some h → is_own p class h ≡ true → P h)
     → (i : ℕ) (h : Hop) → slice_get (own_hops p class hops) i ≡ Some h → P h
 own_all p class P [] all i h e = absurd (none_here i h e)
 own_all p class P (x ∷ hops) all i h e =
@@ -113,12 +113,12 @@ module _ (net : Network) (ports : List PathPort) (p class : ℕ) (q : PathPort) 
 
 -- ---- how many bounds an answer has
 
-length_map : {A B : Type 0} (f : A → B) (xs : List A) → length (map f xs) ≡ length xs
+pub length_map : {A B : Type 0} (f : A → B) (xs : List A) → length (map f xs) ≡ length xs
 length_map f [] = refl
 length_map f (x ∷ xs) = ap suc (length_map f xs)
 
 module _ (s : BoundsSettings) (c : Change) (streams : List Stream) (class : ℕ) (answer : ClassAnswer) where
-  abbrev IsCounted : Type 0
+  abbrev pub IsCounted : Type 0
   IsCounted = (answer.left ≡ []) ⊎ (length answer.left ≡ length streams)
 
   room_counted : (t : Bool) (most : ℕ) (reached : Bool) (bounds : List Bound) → length bounds ≡ length streams
@@ -149,7 +149,7 @@ module _ (s : BoundsSettings) (c : Change) (streams : List Stream) (class : ℕ)
   windows_counted (Err WindowFaults.Late) why is = burst_counted is.told is.answered
   windows_counted (Err WindowFaults.Memory) why is = absurd why
 
-  counted : (any : Bool) → IsApartAnswer any true s c streams class answer → IsCounted
+  pub counted : (any : Bool) → IsApartAnswer any true s c streams class answer → IsCounted
   counted true is = burst_counted is.told is.answered
   counted false is = windows_counted is.told is.are is.answered
 

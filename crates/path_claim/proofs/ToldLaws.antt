@@ -24,7 +24,7 @@ use Rattle.path_claim.proofs.LinkedLaws.{linked_law}
 use Rattle.path_claim.proofs.WindowLaws.{begins_law, ends_law, span_in}
 
 -- a hop in a list, behind the one before
-linked_at : (ports : List PathPort) (clocks k : ℕ) (before : Option Hop) (hops : List Hop) (g h : Hop) → AreLinked ports clocks before hops
+pub linked_at : (ports : List PathPort) (clocks k : ℕ) (before : Option Hop) (hops : List Hop) (g h : Hop) → AreLinked ports clocks before hops
     → slice_get hops k ≡ Some g → slice_get hops (suc k) ≡ Some h → IsLinked ports clocks (Some g) h
 linked_at ports clocks k before [] g h are one two = absurd (none_here k g one)
 linked_at ports clocks zero before (x ∷ []) g h are one two = absurd (none_here zero h two)
@@ -32,6 +32,12 @@ linked_at ports clocks zero before (x ∷ (y ∷ hops)) g h are one two =
     subst (λ (z : Hop). IsLinked ports clocks (Some z) h) (same_Some x g one)
     (subst (λ (z : Hop). IsLinked ports clocks (Some x) z) (same_Some y h two) are.1.0)
 linked_at ports clocks (suc k) before (x ∷ hops) g h are one two = linked_at ports clocks k (Some x) hops g h are.1 one two
+
+-- and the first of all
+pub linked_first : (ports : List PathPort) (clocks : ℕ) (hops : List Hop) (h : Hop) → AreLinked ports clocks None hops → slice_get hops 0 ≡ Some h
+    → IsLinked ports clocks None h
+linked_first ports clocks [] h are e = absurd (none_here 0 h e)
+linked_first ports clocks (x ∷ hops) h are e = subst (λ (y : Hop). IsLinked ports clocks None y) (same_Some x h e) are.0
 
 -- and any, behind some
 linked_any : (ports : List PathPort) (clocks k : ℕ) (before : Option Hop) (hops : List Hop) (h : Hop) → AreLinked ports clocks before hops
@@ -50,7 +56,7 @@ later_at order j pair zero before (x ∷ (y ∷ hops)) g h are one two =
     (subst (λ (z : Hop). IsLater order j pair (Some x) z) (same_Some y h two) are.1.0)
 later_at order j pair (suc k) before (x ∷ hops) g h are one two = later_at order j pair k (Some x) hops g h are.1 one two
 
-same_span : (s t : Span) (c : Coming) → c ≡ Comings.Within s → c ≡ Comings.Within t → s ≡ t
+pub same_span : (s t : Span) (c : Coming) → c ≡ Comings.Within s → c ≡ Comings.Within t → s ≡ t
 same_span s t c one two = ap (span_in s) (sym one ∙ two)
 
 module _ (net : Network) (ports : List PathPort) (clocks : ℕ) (known : Known) (small : AreSmall ports clocks known)

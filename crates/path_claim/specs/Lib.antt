@@ -1,5 +1,6 @@
 pub mod Answered
 pub mod Apart
+pub mod Built
 pub mod Earlier
 pub mod Ends
 pub mod Linked

@@ -10,6 +10,7 @@
 
 ghost use Rattle.path_claim.specs.Answered.{AnsweredLaw};
 ghost use Rattle.path_claim.specs.Apart.{ApartLaw};
+ghost use Rattle.path_claim.specs.Built.{BuiltLaw};
 ghost use Rattle.path_claim.specs.Earlier.{EarlierLaw};
 ghost use Rattle.path_claim.specs.Ends.{EndLaw};
 ghost use Rattle.path_claim.specs.Linked.{LinkedLaw};
@@ -59,6 +60,12 @@ pub fn told_law()
 /// that is counted.
 pub fn sound_law()
     ensures { SoundLaw }
+{}
+
+/// What is known once classes were judged one after another is told of a network: that with these ports, streams and
+/// classes. Each hop with a window and bounds is in it.
+pub fn built_law()
+    ensures { BuiltLaw }
 {}
 
 /// In every run of a network of which all is told, once its classes were judged one after another, those that are judged
