@@ -8,6 +8,7 @@ mod GivenLaws
 mod LinkedLaws
 mod OnceLaws
 mod PathLaws
+mod SmallLaws
 mod SoundLaws
 mod TakenLaws
 mod ToldLaws

@@ -6,6 +6,7 @@ pub mod Ends
 pub mod Linked
 pub mod Networks
 pub mod PathClaim
+pub mod Read
 pub mod Sent
 pub mod Told
 pub mod Windows

@@ -16,6 +16,7 @@ ghost use Rattle.path_claim.specs.Ends.{EndLaw};
 ghost use Rattle.path_claim.specs.Linked.{LinkedLaw};
 ghost use Rattle.path_claim.specs.Networks.{ToldLaw};
 ghost use Rattle.path_claim.specs.PathClaim.{PathClaim};
+ghost use Rattle.path_claim.specs.Read.{ReadSentLaw, ReadSmallLaw};
 ghost use Rattle.path_claim.specs.Sent.{SoundLaw};
 ghost use Rattle.path_claim.specs.Windows.{BeginsLaw, EndsLaw};
 
@@ -66,6 +67,13 @@ pub fn sound_law()
 /// classes. Each hop with a window and bounds is in it.
 pub fn built_law()
     ensures { BuiltLaw }
+{}
+
+/// Streams, links and ports as the readers of a network give them are such as is asked here: frames of a stream come one
+/// after another, and no sum of what is told comes near what 128 bits hold.
+pub fn read_law()
+    ensures sent { ReadSentLaw }
+    ensures small { ReadSmallLaw }
 {}
 
 /// In every run of a network of which all is told, once its classes were judged one after another, those that are judged
