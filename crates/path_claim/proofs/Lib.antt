@@ -2,6 +2,7 @@ mod AnsweredLaws
 mod ApartLaws
 mod BuiltLaws
 mod EarlierLaws
+mod EarliestLaws
 mod EndLaws
 mod FullLaws
 mod GivenLaws

@@ -12,7 +12,7 @@ ghost use Rattle.path_claim.specs.Answered.{AnsweredLaw};
 ghost use Rattle.path_claim.specs.Apart.{ApartLaw};
 ghost use Rattle.path_claim.specs.Built.{BuiltLaw};
 ghost use Rattle.path_claim.specs.Earlier.{EarlierLaw};
-ghost use Rattle.path_claim.specs.Ends.{EndLaw};
+ghost use Rattle.path_claim.specs.Ends.{EarliestLaw, EndLaw, SoonerLaw};
 ghost use Rattle.path_claim.specs.Linked.{LinkedLaw};
 ghost use Rattle.path_claim.specs.Networks.{ToldLaw};
 ghost use Rattle.path_claim.specs.PathClaim.{PathClaim};
@@ -87,4 +87,15 @@ pub fn path_claim()
 /// Each frame of a hop that is told, of a class that keeps time, has ended as is told of the end of its way.
 pub fn end_law()
     ensures { EndLaw }
+{}
+
+/// It has ended no sooner than is told, also where that is before the nominal moment: by whole sums.
+pub fn sooner_law()
+    ensures { SoonerLaw }
+{}
+
+/// No window begins before the nominal moment, where clocks differ by no more than a frame takes from port to port: so no
+/// least end of a way is cut off at 0.
+pub fn earliest_law()
+    ensures { EarliestLaw }
 {}
