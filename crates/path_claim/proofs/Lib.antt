@@ -4,6 +4,7 @@ mod BuiltLaws
 mod EarlierLaws
 mod EarliestLaws
 mod EndLaws
+mod FoundLaws
 mod FullLaws
 mod GivenLaws
 mod LinkedLaws

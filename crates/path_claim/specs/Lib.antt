@@ -3,6 +3,7 @@ pub mod Apart
 pub mod Built
 pub mod Earlier
 pub mod Ends
+pub mod Found
 pub mod Linked
 pub mod Networks
 pub mod PathClaim

@@ -13,6 +13,7 @@ ghost use Rattle.path_claim.specs.Apart.{ApartLaw};
 ghost use Rattle.path_claim.specs.Built.{BuiltLaw};
 ghost use Rattle.path_claim.specs.Earlier.{EarlierLaw};
 ghost use Rattle.path_claim.specs.Ends.{EarliestLaw, EndLaw, SoonerLaw};
+ghost use Rattle.path_claim.specs.Found.{FoundClaim};
 ghost use Rattle.path_claim.specs.Linked.{LinkedLaw};
 ghost use Rattle.path_claim.specs.Networks.{ToldLaw};
 ghost use Rattle.path_claim.specs.PathClaim.{PathClaim};
@@ -99,3 +100,11 @@ pub fn sooner_law()
 pub fn earliest_law()
     ensures { EarliestLaw }
 {}
+
+/// What is found of a network that is read holds in every run of the network that is found: classes with bounds keep time,
+/// and frames end as is told, where the classes that share windows are judged by priority.
+pub fn found_claim()
+    ensures { FoundClaim }
+{
+    claims::network_claim::claims();
+}

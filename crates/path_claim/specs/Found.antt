@@ -1,0 +1,33 @@
+-- The claim for what is read of a network: what is found of it holds in every run of the network that is found.
+use Rattle.std.specs.Prelude.{◌≡◌, ℕ, true, false, List, Option, Some, slice_get}
+use Rattle.gates.specs.Gate.{keeps_apart}
+use Rattle.abstract_port.specs.Traffic.{Came}
+use Rattle.path_bounds.specs.Judged.{AreJudged, Known, unjudged}
+use Rattle.path_bounds.specs.Start.{start_hops}
+use Rattle.path_bounds.specs.declared.hop.Hop.{Hop}
+use Rattle.path_bounds.specs.declared.hop.PathPort.{PathPort}
+use Rattle.path_bounds.specs.declared.start.WayHop.{WayHop}
+use Rattle.claims.specs.Network.{IsNetworkRun, IsNumbered, Network, PortRun}
+use Rattle.claims.specs.NetworkClaim.{KeepsTime}
+use Rattle.claims.specs.Priority.{IsByPriority}
+use Rattle.path_claim.specs.Built.{AreWays, AreWhole, IsInClass, network_of, place_of}
+use Rattle.path_claim.specs.Ends.{EndsAsTold}
+use Rattle.path_claim.specs.Read.{IsRead}
+
+module _ (net : Network) (ports : List PathPort) (clocks : ℕ) (known : Known) (runs : ℕ → PortRun) (nominal : (stream n : ℕ) → ℕ) where
+  -- Each class with bounds keeps time, and so the frames of each hop with a window and bounds end as is told of them.
+  pub record IsKeptBy : Type 0 where
+    pub keeps : (port class : ℕ) → net.judged port class ≡ true → KeepsTime net runs nominal port class
+    pub ends : (k j n : ℕ) (h : Hop) (p : PathPort) (f : Came) → slice_get ports h.port ≡ Some p → (at : IsInClass net ports clocks known k h)
+        → IsNumbered net h.port at.class (runs h.port) j (place_of known.hops h.port at.class k) n f at.hop
+        → EndsAsTold net runs nominal h.port at.class j n p at.hop h (at.at).span (at.at).bound
+
+-- The claim: so it is in every run, where the classes that share windows are judged by priority.
+abbrev pub FoundClaim : Type 0
+FoundClaim =
+    (limit : (port class : ℕ) → Option ℕ) (ports : List PathPort) (clocks : ℕ) (ways : List WayHop) (known : Known)
+    → IsRead ports clocks ways → AreWays ports ways → AreJudged ports clocks (unjudged ports (start_hops ports false ways)) known → AreWhole known
+    → ((p class : ℕ) → (network_of limit ports clocks known).judged p class ≡ true
+    → keeps_apart ((network_of limit ports clocks known).ports p).plan.entries class ≡ false → IsByPriority (network_of limit ports clocks known) p class)
+    → (runs : ℕ → PortRun) (nominal : (stream n : ℕ) → ℕ) → IsNetworkRun (network_of limit ports clocks known) runs nominal
+    → IsKeptBy (network_of limit ports clocks known) ports clocks known runs nominal
