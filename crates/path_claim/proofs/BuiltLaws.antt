@@ -1,11 +1,12 @@
 -- The network of what is known is one of all that is told.
 use Rattle.std.specs.List.{list_any}
-use Rattle.std.proofs.Common.{◌≡◌, ◌<◌, ◌≤◌, ℕ, zero, suc, ◌+◌, ◌-◌, ◌^◌, ◌==◌, ◌&&◌, ◌||◌, not, cond, Bool, true, false, List, [], ◌∷◌, length, take, Option, Some, None, is_some, slice_get, unwrap_or, if◌then◌else◌, refl, sym, ap, ◌∙◌, subst, arith}
-use Rattle.std.proofs.lemmas.Bool.{and_from, and_parts, eq-eqb, eqb-true, or_left, or_right, true≢false}
+use Rattle.std.proofs.Common.{◌≡◌, ◌≤◌, ◌⊎◌, inl, inr, ℕ, zero, suc, ◌+◌, ◌==◌, ◌&&◌, ◌||◌, not, cond, Bool, true, false, List, [], ◌∷◌, length, take, Option, Some, None, is_some, slice_get, unwrap_or, if◌then◌else◌, refl, sym, ap, ◌∙◌, subst, arith}
+use Rattle.std.proofs.lemmas.Bool.{and_from, and_parts, eq-eqb, eqb-true, or_left, or_parts, true≢false}
 use Rattle.std.proofs.lemmas.Option.{none-some, same_Some}
 use Rattle.any_traffic.proofs.ListLaws.{none_here, one_before}
 use Rattle.delay_bounds.specs.declared.Bound.{Bound}
-use Rattle.path_bounds.specs.Hops.{is_class, is_never, is_own}
+use Rattle.path_bounds.specs.Answers.{has_own}
+use Rattle.path_bounds.specs.Hops.{is_own}
 use Rattle.path_bounds.specs.Judged.{Known, class_in, port_in}
 use Rattle.path_bounds.specs.declared.hop.Coming.{Coming}
 use Rattle.path_bounds.specs.declared.hop.Coming.TheVariants as Comings
@@ -13,13 +14,13 @@ use Rattle.path_bounds.specs.declared.hop.Hop.{Hop}
 use Rattle.path_bounds.specs.declared.hop.PathPort.{PathPort}
 use Rattle.path_bounds.specs.declared.hop.Span.{Span}
 use Rattle.path_bounds.specs.Start.{start_hops}
-use Rattle.claims.specs.Network.{Hop as NetworkHop, Link, Network}
+use Rattle.claims.specs.Network.{Hop as NetworkHop, Network}
 use Rattle.path_claim.specs.Answered.{IsAnswered, own_hops}
-use Rattle.path_claim.specs.Built.{AreWhole, BuiltLaw, IsBuilt, IsInClass, before_of, begin_of, begins_at, class_from, has_bounds, hop_at, link_by, network_of, no_bound, order_in, place_of, port_by, span_of, stream_by}
-use Rattle.path_claim.specs.Linked.{AreLinked, IsFrom, IsLinked, IsWindow}
+use Rattle.path_claim.specs.Built.{AreWhole, BuiltLaw, IsBuilt, IsInClass, before_of, begin_of, begins_at, class_from, has_bounds, hop_at, link_by, network_of, no_bound, order_in, port_by, quiet_by, span_of, stream_by}
+use Rattle.path_claim.specs.Linked.{AreLinked, IsFrom, IsWindow}
 use Rattle.path_claim.specs.Networks.{IsHopAt, IsNetworkOf, IsPassedBy}
 use Rattle.path_claim.specs.PathClaim.{AreHopsAs, IsHopAs}
-use Rattle.path_claim.specs.Told.{bound_told, port_told, stream_told}
+use Rattle.path_claim.specs.Told.{bound_told, stream_told}
 use Rattle.path_claim.proofs.AnsweredLaws.{answered_law, own_parts}
 use Rattle.path_claim.proofs.EarlierLaws.{AreHeldIn, held_at, held_law}
 use Rattle.path_claim.proofs.FullLaws.{IsFull, all_full, any_some, own_from, own_place, some_any}
@@ -77,6 +78,14 @@ module _ (all : List Hop) (port class : ℕ) where
       by true own (suc j) at rest = later rest j at
       by false own j at rest = later rest j at
 
+  -- a class without hops has none in the network
+  none_from : (n : ℕ) (hops : List Hop) → list_any (is_own port class) hops ≡ false → class_from all port class n hops ≡ []
+  none_from n [] none = refl
+  none_from n (h ∷ hops) none =
+      let parts = or_parts (is_own port class h) (list_any (is_own port class) hops) none in
+      ap (λ (t : Bool). cond t (hop_at all n h ∷ class_from all port class (suc n) hops) (class_from all port class (suc n) hops)) parts.0
+      ∙ none_from (suc n) hops parts.1
+
   -- what holds of each holds of all of a class
   all_as : (net : Network) (n : ℕ) (hops : List Hop)
       → ((k : ℕ) (h : Hop) → slice_get hops k ≡ Some h → is_own port class h ≡ true → IsHopAs net (hop_at all (n + k) h) h)
@@ -125,14 +134,14 @@ some_bound None is = absurd (true≢false (sym is))
 
 -- ---- the network
 
-module _ (limit : (port class : ℕ) → Option ℕ) (ports : List PathPort) (clocks : ℕ) (known : Known)
+module _ (ports : List PathPort) (clocks : ℕ) (known : Known)
     (along : (k : ℕ) (g h : Hop) → slice_get known.hops k ≡ Some g → slice_get known.hops (suc k) ≡ Some h → h.first ≡ false
     → g.stream ≡ h.stream)
     (linked : AreLinked ports clocks None known.hops) (held : AreHeldIn known.order known.hops)
-    (answered : (i pair : ℕ) → slice_get known.order i ≡ Some pair → IsAnswered ports known pair) (once : AreOnce known.order)
+    (answered : (i pair : ℕ) → slice_get known.order i ≡ Some pair → IsAnswered ports known i pair) (once : AreOnce known.order)
     (whole : AreWhole known) where
   abbrev net : Network
-  net = network_of limit ports clocks known
+  net = network_of ports clocks known
 
   -- ---- streams
 
@@ -155,9 +164,9 @@ module _ (limit : (port class : ℕ) → Option ℕ) (ports : List PathPort) (cl
   -- ---- classes
 
   -- a class with bounds was judged
-  judged_is : (port class : ℕ) → net.judged port class ≡ true
+  bounds_is : (port class : ℕ) → has_bounds known.hops port class ≡ true
       → (j pair : ℕ) × (slice_get known.order j ≡ Some pair) × (port ≡ port_in pair) × (class ≡ class_in pair)
-  judged_is port class judged =
+  bounds_is port class judged =
       let h = any_some (λ (h : Hop). is_own port class h && is_some h.bound) known.hops judged in
       let parts = and_parts (is_own port class h.1) (is_some (h.1).bound) h.3 in
       let own = own_parts port class h.1 parts.0 in
@@ -168,24 +177,60 @@ module _ (limit : (port class : ℕ) → Option ℕ) (ports : List PathPort) (cl
   judged_by : (port class k : ℕ) (h : Hop) (b : Bound) → slice_get known.hops k ≡ Some h → is_own port class h ≡ true → h.bound ≡ Some b
       → net.judged port class ≡ true
   judged_by port class k h b e own bounded =
-      some_any (λ (h : Hop). is_own port class h && is_some h.bound) known.hops k h e
-      (and_from (is_own port class h) (is_some h.bound) own (ap (λ (o : Option Bound). is_some o) bounded))
+      or_left (has_bounds known.hops port class) (quiet_by (slice_get ports port) port class known.hops)
+      (some_any (λ (h : Hop). is_own port class h && is_some h.bound) known.hops k h e
+      (and_from (is_own port class h) (is_some h.bound) own (ap (λ (o : Option Bound). is_some o) bounded)))
+
+  -- and one that is quiet has no hops
+  quiet_own : (o : Option PathPort) (port class : ℕ) → quiet_by o port class known.hops ≡ true → has_own port class known.hops ≡ false
+  quiet_own None port class is = absurd (true≢false (sym is))
+  quiet_own (Some p) port class is = by (has_own port class known.hops) (and_parts _ _ is).0
+    where
+      by : (t : Bool) → not t ≡ true → t ≡ false
+      by true none = absurd (true≢false (sym none))
+      by false none = refl
+
+  judged_cases : (port class : ℕ) → net.judged port class ≡ true
+      → (has_bounds known.hops port class ≡ true) ⊎ (has_own port class known.hops ≡ false)
+  judged_cases port class judged = by (has_bounds known.hops port class) refl judged
+    where
+      by : (t : Bool) → has_bounds known.hops port class ≡ t → (t || quiet_by (slice_get ports port) port class known.hops) ≡ true
+          → (has_bounds known.hops port class ≡ true) ⊎ (has_own port class known.hops ≡ false)
+      by true is judged = inl is
+      by false is judged = inr (quiet_own (slice_get ports port) port class judged)
+
+  judged_is : (port class : ℕ) → net.judged port class ≡ true
+      → ((j pair : ℕ) × (slice_get known.order j ≡ Some pair) × (port ≡ port_in pair) × (class ≡ class_in pair)) ⊎ (net.hops port class ≡ [])
+  judged_is port class judged = by (judged_cases port class judged)
+    where
+      by : (has_bounds known.hops port class ≡ true) ⊎ (has_own port class known.hops ≡ false)
+          → ((j pair : ℕ) × (slice_get known.order j ≡ Some pair) × (port ≡ port_in pair) × (class ≡ class_in pair)) ⊎ (net.hops port class ≡ [])
+      by (inl is) = inl (bounds_is port class is)
+      by (inr none) = inr (none_from known.hops port class 0 known.hops none)
 
   -- and so its hops have windows and bounds
-  full : (port class : ℕ) → net.judged port class ≡ true → (k : ℕ) (h : Hop) → slice_get known.hops k ≡ Some h
+  full_by : (port class : ℕ) → has_bounds known.hops port class ≡ true → (k : ℕ) (h : Hop) → slice_get known.hops k ≡ Some h
       → is_own port class h ≡ true → IsFull h
-  full port class judged k h e own =
+  full_by port class judged k h e own =
       let some = any_some (λ (h : Hop). is_own port class h && is_some h.bound) known.hops judged in
       let parts = and_parts (is_own port class some.1) (is_some (some.1).bound) some.3 in
       let b = some_bound (some.1).bound parts.1 in
-      let mine = judged_is port class judged in
+      let mine = bounds_is port class judged in
       let there : (y : Hop) → is_own port class y ≡ true → is_own (port_in mine.1) (class_in mine.1) y ≡ true
       = λ (y : Hop) is. subst (λ (n : ℕ). is_own n (class_in mine.1) y ≡ true) mine.3 (subst (λ (n : ℕ). is_own port n y ≡ true) mine.4 is) in
-      all_full ports known mine.1 (answered mine.0 mine.1 mine.2)
+      all_full ports known mine.0 mine.1 (answered mine.0 mine.1 mine.2)
       (length (own_hops (port_in mine.1) (class_in mine.1) (take some.0 known.hops))) some.1
       (own_place (port_in mine.1) (class_in mine.1) known.hops some.0 some.1 some.2 (there some.1 parts.0)) b.0 b.1
       (length (own_hops (port_in mine.1) (class_in mine.1) (take k known.hops))) h
       (own_place (port_in mine.1) (class_in mine.1) known.hops k h e (there h own))
+
+  full : (port class : ℕ) → net.judged port class ≡ true → (k : ℕ) (h : Hop) → slice_get known.hops k ≡ Some h
+      → is_own port class h ≡ true → IsFull h
+  full port class judged k h e own = by (judged_cases port class judged)
+    where
+      by : (has_bounds known.hops port class ≡ true) ⊎ (has_own port class known.hops ≡ false) → IsFull h
+      by (inl is) = full_by port class is k h e own
+      by (inr none) = absurd (true≢false (sym (some_any (is_own port class) known.hops k h e own) ∙ none))
 
   -- ---- hops
 
@@ -321,7 +366,7 @@ module _ (limit : (port class : ℕ) → Option ℕ) (ports : List PathPort) (cl
           }
 
 pub built_law : BuiltLaw
-built_law limit ports clocks ways known are judged whole =
-    built limit ports clocks known (along_law ports clocks ways known are judged) (linked_law ports clocks ways known judged)
+built_law ports clocks ways known are judged whole =
+    built ports clocks known (along_law ports clocks ways known are judged) (linked_law ports clocks ways known judged)
     (held_law ports clocks ways known judged) (answered_law ports clocks (start_hops ports false ways) known judged)
     (once_law ports clocks (start_hops ports false ways) known judged) whole

@@ -44,16 +44,6 @@ Stays None new = Unit {0}
 Stays (Some g) None = ⊥
 Stays (Some g) (Some k) = (k.port ≡ g.port) × (k.class ≡ g.class)
 
-pub last_at : (xs : List ℕ) (x i y : ℕ) → slice_get (xs ++ x ∷ []) i ≡ Some y → (slice_get xs i ≡ Some y) ⊎ ((x ≡ y) × (i ≡ length xs))
-last_at [] x zero y e = inr (same_Some x y e, refl)
-last_at [] x (suc i) y e = absurd (none_here i y e)
-last_at (z ∷ xs) x zero y e = inl e
-last_at (z ∷ xs) x (suc i) y e = by (last_at xs x i y e)
-  where
-    by : (slice_get xs i ≡ Some y) ⊎ ((x ≡ y) × (i ≡ length xs)) → (slice_get xs i ≡ Some y) ⊎ ((x ≡ y) × (suc i ≡ suc (length xs)))
-    by (inl before) = inl before
-    by (inr is) = inr (is.0, ap suc is.1)
-
 module _ (ports : List PathPort) (clocks : ℕ) where
   begin_held : (ways : List WayHop) (never : Bool) → AreHeldIn [] (start_hops ports never ways)
   unfolding start_hops
@@ -212,7 +202,7 @@ module _ (ports : List PathPort) (clocks : ℕ) where
     held = subst (λ (o : List ℕ). AreHeldIn o new.hops) (sym step.order)
         (subst (λ (hs : List Hop). AreHeldIn (old.order ++ pair ∷ []) hs) (sym step.hops)
         (held_on pair step.port (step.answer).left old.order old.hops 0 Leavings.Other kept.held));
-    later = λ (j q : ℕ) e. by j q (last_at old.order pair j q (sym (ap (λ (xs : List ℕ). slice_get xs j) step.order) ∙ e));
+    later = λ (j q : ℕ) e. by j q (Answers.last_at old.order pair j q (sym (ap (λ (xs : List ℕ). slice_get xs j) step.order) ∙ e));
   }
     where
       moved : (j q : ℕ)

@@ -1,5 +1,5 @@
 -- No window begins before the nominal moment.
-use Rattle.std.proofs.Common.{◌≡◌, ◌<◌, ◌≤◌, ℕ, zero, suc, ◌+◌, ◌-◌, ◌^◌, nat_le, Bool, true, false, List, Option, Some, None, slice_get, refl, sym, ap, ◌∙◌, subst, arith}
+use Rattle.std.proofs.Common.{◌≡◌, ◌<◌, ◌≤◌, ℕ, zero, suc, ◌+◌, ◌-◌, ◌^◌, Bool, true, false, List, Option, Some, None, slice_get, refl, sym, ap, ◌∙◌, subst, arith}
 use Rattle.std.proofs.lemmas.Option.{same_Some}
 use Rattle.any_traffic.proofs.ListLaws.{one_before}
 use Rattle.delay_bounds.specs.declared.Bound.{Bound}
@@ -10,12 +10,12 @@ use Rattle.path_bounds.specs.declared.hop.Coming.TheVariants as Comings
 use Rattle.path_bounds.specs.declared.hop.Hop.{Hop}
 use Rattle.path_bounds.specs.declared.hop.PathPort.{PathPort}
 use Rattle.path_bounds.specs.declared.hop.Span.{Span}
-use Rattle.path_claim.specs.Ends.{AreClose, EarliestLaw, first_end}
-use Rattle.path_claim.specs.Linked.{AreLinked, IsFrom, IsWindow}
+use Rattle.path_claim.specs.Ends.{AreClose, EarliestLaw}
+use Rattle.path_claim.specs.Linked.{AreLinked, IsWindow}
 use Rattle.path_claim.specs.Networks.{AreSmall}
 use Rattle.path_claim.specs.Windows.{IsBehind, IsFar}
 use Rattle.path_claim.proofs.LinkedLaws.{linked_law}
-use Rattle.path_claim.proofs.ToldLaws.{linked_at, linked_first, same_span}
+use Rattle.path_claim.proofs.ToldLaws.{linked_at, linked_first}
 use Rattle.path_claim.proofs.WindowLaws.{ahead_whole, is_span}
 
 -- ---- sums

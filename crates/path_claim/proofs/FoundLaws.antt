@@ -7,17 +7,18 @@ use Rattle.path_claim.specs.Found.{FoundClaim}
 use Rattle.path_claim.proofs.BuiltLaws.{built_law}
 use Rattle.path_claim.proofs.EndLaws.{end_law}
 use Rattle.path_claim.proofs.PathLaws.{path_claim}
+use Rattle.path_claim.proofs.SharedLaws.{shared_is}
 use Rattle.path_claim.proofs.SmallLaws.{sent_law, small_law}
 
 since_small : (n : ℕ) → n ≤ 2 * greatest_moment → n < 2 ^ 127
 since_small n le = omega (arith, le)
 
 pub found_claim : NetworkClaim → FoundClaim
-found_claim claim limit ports clocks ways known read are judged whole shared runs nominal run =
-    let net = network_of limit ports clocks known in
-    let built = built_law limit ports clocks ways known are judged whole in
+found_claim claim ports clocks ways known read are judged whole runs nominal run =
+    let net = network_of ports clocks known in
+    let built = built_law ports clocks ways known are judged whole in
     let kept = path_claim claim net ports clocks ways known (sent_law ports clocks ways read) judged
-    (small_law ports clocks ways known read are judged) built.is built.hops shared runs nominal run in
+    (small_law ports clocks ways known read are judged) built.is built.hops (shared_is ports clocks ways known read are judged whole) runs nominal run in
     record {
       keeps = kept;
       ends = λ k j n h p f there at numbered.

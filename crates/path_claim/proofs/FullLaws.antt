@@ -4,8 +4,6 @@ use Rattle.std.proofs.Common.{◌≡◌, ◌⊎◌, inl, inr, ℕ, zero, suc, �
 use Rattle.std.proofs.lemmas.Bool.{and_from, and_parts, eq-eqb, or_left, or_parts, or_right, true≢false}
 use Rattle.std.proofs.lemmas.Option.{none-some, same_Some, slice_get_within}
 use Rattle.any_traffic.proofs.ListLaws.{none_here, one_at}
-use Rattle.gates.specs.Gate.{keeps_apart}
-use Rattle.abstract_port.specs.AbstractPort.{plan_asked}
 use Rattle.burst_bounds.specs.declared.Bounds.{Bounds as BurstBounds}
 use Rattle.burst_bounds.specs.declared.Unbound.{Unbound as BurstUnbound}
 use Rattle.burst_bounds.specs.declared.Unbound.TheVariants as BurstFaults
@@ -212,7 +210,7 @@ span_by Comings.Awaited one two three = absurd (true≢false one)
 span_by Comings.Unknown one two three = absurd (true≢false two)
 span_by Comings.Never one two three = absurd (true≢false three)
 
-module _ (ports : List PathPort) (known : Known) (pair : ℕ) (a : IsAnswered ports known pair) (i : ℕ) (g : Hop)
+module _ (ports : List PathPort) (known : Known) (n pair : ℕ) (a : IsAnswered ports known n pair) (i : ℕ) (g : Hop)
     (some : slice_get (own_hops (port_in pair) (class_in pair) known.hops) i ≡ Some g) (b : Bound) (bounded : g.bound ≡ Some b) where
   abbrev hops : List Hop
   hops = own_hops (port_in pair) (class_in pair) known.hops
@@ -224,7 +222,7 @@ module _ (ports : List PathPort) (known : Known) (pair : ℕ) (a : IsAnswered po
       = given_bound (a.answer).left 0 hops i g a.given some ∙ ap (λ (bs : List Bound). slice_get bs (0 + i)) none in
       none-some b (sym is ∙ bounded)
 
-  full_by : IsKnownSo ports known pair a.port a.answer a.verdict → (k : ℕ) (h : Hop) → slice_get hops k ≡ Some h → IsFull h
+  full_by : IsKnownSo ports known n pair a.port a.answer a.verdict → (k : ℕ) (h : Hop) → slice_get hops k ≡ Some h → IsFull h
   full_by so k h e = by (answer_all _ a.port so.table so.above (map entry_of hops) (class_in pair) a.answer so.answered)
     where
       own : is_own (port_in pair) (class_in pair) h ≡ true
@@ -254,7 +252,7 @@ module _ (ports : List PathPort) (known : Known) (pair : ℕ) (a : IsAnswered po
   pub all_full : (k : ℕ) (h : Hop) → slice_get hops k ≡ Some h → IsFull h
   all_full = by a.so
     where
-      by : ((a.answer ≡ unbounded Verdicts.Idle) × (a.verdict ≡ PairVerdicts.Unheard)) ⊎ IsKnownSo ports known pair a.port a.answer a.verdict
+      by : ((a.answer ≡ unbounded Verdicts.Idle) × (a.verdict ≡ PairVerdicts.Unheard)) ⊎ IsKnownSo ports known n pair a.port a.answer a.verdict
           → (k : ℕ) (h : Hop) → slice_get hops k ≡ Some h → IsFull h
       by (inl none) k h e = absurd (left_some (no_left a.answer _ none.0 refl))
       by (inr so) k h e = full_by so k h e

@@ -1,6 +1,7 @@
 mod AnsweredLaws
 mod ApartLaws
 mod BuiltLaws
+mod ByPriorityLaws
 mod EarlierLaws
 mod EarliestLaws
 mod EndLaws
@@ -10,8 +11,11 @@ mod GivenLaws
 mod LinkedLaws
 mod OnceLaws
 mod PathLaws
+mod SharedLaws
+mod SharingLaws
 mod SmallLaws
 mod SoundLaws
 mod TakenLaws
 mod ToldLaws
+mod TrafficLaws
 mod WindowLaws

@@ -1,15 +1,13 @@
 -- Each class is judged once.
-use Rattle.std.proofs.Common.{◌≡◌, ◌⊎◌, inl, inr, ℕ, ◌+◌, List, [], ◌∷◌, ◌++◌, length, Some, None, slice_get, sym, ap, ◌∙◌, subst}
+use Rattle.std.proofs.Common.{◌≡◌, ◌⊎◌, inl, inr, ℕ, List, [], ◌∷◌, ◌++◌, length, Some, None, slice_get, sym, ap, ◌∙◌, subst}
 use Rattle.std.proofs.lemmas.Option.{none-some}
 use Rattle.any_traffic.proofs.ListLaws.{none_here}
 use Rattle.path_bounds.specs.Answers.{pair_of, verdict_at}
 use Rattle.path_bounds.specs.Judged.{AreJudged, AreSteps, IsStep, Known, class_in, port_in, unjudged}
-use Rattle.path_bounds.specs.Start.{start_hops}
 use Rattle.path_bounds.specs.declared.hop.Hop.{Hop}
 use Rattle.path_bounds.specs.declared.hop.PathPort.{PathPort}
-use Rattle.path_claim.specs.Answered.{IsAnswered}
 use Rattle.path_claim.proofs.AnsweredLaws as Answers
-use Rattle.path_claim.proofs.EarlierLaws.{last_at}
+use Rattle.path_claim.proofs.AnsweredLaws.{last_at}
 
 -- two places of one class are one
 abbrev pub AreOnce : List ℕ → Type 0

@@ -1,5 +1,5 @@
 -- No sum of what is told comes near what 128 bits hold, by what is read.
-use Rattle.std.proofs.Common.{◌≡◌, ◌<◌, ◌≤◌, inl, inr, ◌⊎◌, ℕ, zero, suc, ◌+◌, ◌*◌, ◌^◌, max, not, Bool, true, false, List, [], ◌∷◌, length, map, take, Option, Some, None, is_some, slice_get, refl, sym, ap, ◌∙◌, subst, arith, le_refl}
+use Rattle.std.proofs.Common.{◌≡◌, ◌<◌, ◌≤◌, inl, inr, ◌⊎◌, ℕ, zero, suc, ◌+◌, ◌*◌, ◌^◌, not, Bool, true, false, List, length, map, take, Option, Some, None, is_some, slice_get, refl, sym, ap, ◌∙◌, subst, arith}
 use Rattle.std.proofs.lemmas.Nat.{mul-le}
 use Rattle.std.proofs.lemmas.Option.{none-some, same_Some, slice_get_within}
 use Rattle.any_traffic.proofs.ListLaws.{one_before}
@@ -10,10 +10,10 @@ use Rattle.delay_bounds.specs.declared.Bound.{Bound}
 use Rattle.gates.specs.Gate.{keeps_apart}
 use Rattle.abstract_port.specs.AbstractPort.{plan_asked}
 use Rattle.stream_bounds.specs.Classes.{has_any, is_any}
-use Rattle.stream_bounds.specs.Verdicts.{ClassAnswer, needs_of, unbounded}
+use Rattle.stream_bounds.specs.Verdicts.{ClassAnswer, unbounded}
 use Rattle.stream_bounds.specs.declared.verdicts.Verdict.TheVariants as Verdicts
 use Rattle.traffic.specs.declared.table.Stream.{Stream}
-use Rattle.path_bounds.specs.Hops.{entry_by, entry_of, gap_of, is_own, moved_offset}
+use Rattle.path_bounds.specs.Hops.{entry_by, entry_of, gap_of, moved_offset}
 use Rattle.path_bounds.specs.Judged.{Known, class_in, port_in}
 use Rattle.path_bounds.specs.Start.{start_hops}
 use Rattle.path_bounds.specs.declared.hop.Coming.{Coming}
@@ -25,9 +25,8 @@ use Rattle.path_bounds.specs.declared.standings.PairVerdict.TheVariants as PairV
 use Rattle.path_bounds.specs.declared.start.WayHop.{WayHop}
 use Rattle.path_claim.specs.Answered.{IsAnswered, IsKnownSo, own_hops}
 use Rattle.path_claim.specs.Linked.{AreLinked, IsFrom, IsWindow}
-use Rattle.path_claim.specs.Networks.{AreSmall}
-use Rattle.path_claim.specs.Read.{IsRead, IsReadHop, IsReadPort, ReadSentLaw, ReadSmallLaw}
-use Rattle.path_claim.specs.Windows.{IsBehind, IsFar, IsNear}
+use Rattle.path_claim.specs.Read.{IsRead, ReadSentLaw, ReadSmallLaw}
+use Rattle.path_claim.specs.Windows.{IsFar, IsNear}
 use Rattle.path_claim.proofs.AnsweredLaws.{answered_law}
 use Rattle.path_claim.proofs.EarlierLaws.{AreHeldIn, held_at, held_law}
 use Rattle.path_claim.proofs.FullLaws.{answer_zero, given_bound, own_from, own_place, some_any}
@@ -63,7 +62,7 @@ any_by c x s coming none =
 
 module _ (ports : List PathPort) (clocks : ℕ) (known : Known) (linked : AreLinked ports clocks None known.hops)
     (held : AreHeldIn known.order known.hops)
-    (answered : (i pair : ℕ) → slice_get known.order i ≡ Some pair → IsAnswered ports known pair) where
+    (answered : (i pair : ℕ) → slice_get known.order i ≡ Some pair → IsAnswered ports known i pair) where
   module _ (k : ℕ) (h : Hop) (s : Span) (b : Bound) (e : slice_get known.hops k ≡ Some h) (coming : h.coming ≡ Comings.Within s)
       (bounded : h.bound ≡ Some b) (none : h.stream.offset ≡ None) where
     r : (i pair : ℕ) × (slice_get known.order i ≡ Some pair) × (h.port ≡ port_in pair) × (h.class ≡ Some (class_in pair))
@@ -75,7 +74,7 @@ module _ (ports : List PathPort) (clocks : ℕ) (known : Known) (linked : AreLin
     abbrev place : ℕ
     place = length (own_hops (port_in r.1) (class_in r.1) (take k known.hops))
 
-    a : IsAnswered ports known r.1
+    a : IsAnswered ports known r.0 r.1
     a = answered r.0 r.1 r.2
 
     at : slice_get hops place ≡ Some h
@@ -90,7 +89,7 @@ module _ (ports : List PathPort) (clocks : ℕ) (known : Known) (linked : AreLin
     from_zero : b.least ≡ 0
     from_zero = by a.so
       where
-        by : ((a.answer ≡ unbounded Verdicts.Idle) × (a.verdict ≡ PairVerdicts.Unheard)) ⊎ IsKnownSo ports known r.1 a.port a.answer a.verdict → b.least ≡ 0
+        by : ((a.answer ≡ unbounded Verdicts.Idle) × (a.verdict ≡ PairVerdicts.Unheard)) ⊎ IsKnownSo ports known r.0 r.1 a.port a.answer a.verdict → b.least ≡ 0
         by (inl idle) = absurd (none-some b (sym (ap (λ (y : ClassAnswer). slice_get y.left (0 + place)) idle.0) ∙ bound_is))
         by (inr so) =
             answer_zero (keeps_apart (plan_asked (a.port).change).entries (class_in r.1)) a.port so.table so.above (map entry_of hops) (class_in r.1)

@@ -1,5 +1,5 @@
 -- A network of which all is told is told.
-use Rattle.std.proofs.Common.{◌≡◌, ◌<◌, ◌≤◌, ℕ, zero, suc, ◌+◌, ◌*◌, Bool, true, false, List, [], ◌∷◌, Option, Some, None, slice_get, sym, ap, ◌∙◌, subst, arith}
+use Rattle.std.proofs.Common.{◌≡◌, ◌<◌, ◌≤◌, ◌⊎◌, inl, inr, ℕ, zero, suc, ◌+◌, ◌*◌, Bool, true, false, List, [], ◌∷◌, Option, Some, None, slice_get, sym, ap, ◌∙◌, subst, arith}
 use Rattle.std.proofs.lemmas.Option.{same_Some}
 use Rattle.any_traffic.proofs.ListLaws.{none_here}
 use Rattle.delay_bounds.specs.declared.Bound.{Bound}
@@ -156,10 +156,9 @@ module _ (net : Network) (ports : List PathPort) (clocks : ℕ) (known : Known) 
             omega (arith, one, two, three, four, five, six, seven, eight, nine, le)
 
     -- its class is judged sooner
-    sooner : net.judged p class ≡ true
+    sooner_by : (mine : (j pair : ℕ) × (slice_get known.order j ≡ Some pair) × (p ≡ port_in pair) × (class ≡ class_in pair))
         → (net.judged l.port l.class ≡ true) × (net.order l.port l.class < net.order p class)
-    sooner judged =
-        let mine = is.judged p class judged in
+    sooner_by mine =
         let own : is_own (port_in mine.1) (class_in mine.1) h ≡ true
         = subst (λ (n : ℕ). is_own n (class_in mine.1) h ≡ true) mine.3 (subst (λ (n : ℕ). is_own p n h ≡ true) mine.4 at.own) in
         let r = later_at known.order mine.0 mine.1 k None known.hops g h (later mine.0 mine.1 mine.2) from_at.is at.is own at.span at.coming
@@ -183,15 +182,24 @@ module _ (net : Network) (ports : List PathPort) (clocks : ℕ) (known : Known) 
           omega (arith, order_there, order_here, less),
         )
 
-  over_link : (p class k : ℕ) (a : NetworkHop) (h : Hop) (l : Link) → net.judged p class ≡ true
+    sooner : (i : ℕ) → slice_get (net.hops p class) i ≡ Some a → net.judged p class ≡ true
+        → (net.judged l.port l.class ≡ true) × (net.order l.port l.class < net.order p class)
+    sooner i e judged = by (is.judged p class judged)
+      where
+        by : ((j pair : ℕ) × (slice_get known.order j ≡ Some pair) × (p ≡ port_in pair) × (class ≡ class_in pair)) ⊎ (net.hops p class ≡ [])
+            → (net.judged l.port l.class ≡ true) × (net.order l.port l.class < net.order p class)
+        by (inl mine) = sooner_by mine
+        by (inr none) = absurd (none_here i a (sym (ap (λ (those : List NetworkHop). slice_get those i) none) ∙ e))
+
+  over_link : (p class i k : ℕ) (a : NetworkHop) (h : Hop) (l : Link) → net.judged p class ≡ true → slice_get (net.hops p class) i ≡ Some a
       → IsHopAt net ports clocks known p class a k h → IsPassedBy net ports clocks known (Some l) k a h
       → (net.judged l.port l.class ≡ true) × (net.order l.port l.class < net.order p class)
       × (b : NetworkHop) × (slice_get (net.hops l.port l.class) l.place ≡ Some b) × FollowsFrom net p a l b
-  over_link p class zero a h l judged at passed = absurd passed
-  over_link p class (suc k) a h l judged at passed =
+  over_link p class i zero a h l judged e at passed = absurd passed
+  over_link p class i (suc k) a h l judged e at passed =
       let b = passed.3 in
       let g = passed.4 in
-      let sooner_is = sooner p class k a b l g h at passed.6 passed.0 passed.1 passed.2 passed.7 judged in (
+      let sooner_is = sooner p class k a b l g h at passed.6 passed.0 passed.1 passed.2 passed.7 i e judged in (
         sooner_is.0,
         sooner_is.1,
         b,
@@ -208,7 +216,7 @@ module _ (net : Network) (ports : List PathPort) (clocks : ℕ) (known : Known) 
     links = λ p class i a l judged e some.
         let hop = is.hops p class i a judged e in
         let passed = subst (λ (o : Option Link). IsPassedBy net ports clocks known o hop.0 a hop.1) some hop.3 in
-        over_link p class hop.0 a hop.1 l judged hop.2 passed;
+        over_link p class i hop.0 a hop.1 l judged e hop.2 passed;
   }
 
 pub told_law : ToldLaw

@@ -1,12 +1,16 @@
 -- The network that is found: its ports, streams and classes are those of what is known of all hops, once classes are judged.
 --
--- A stream is numbered by the place of the first hop of its way. A class is judged where it has bounds, and its order is its place among the
--- classes that were judged.
+-- A stream is numbered by the place of the first hop of its way. A class is judged where it has bounds, or where nothing comes to it; its order
+-- is its place among the classes that were judged.
 use Rattle.std.specs.List.{list_any}
-use Rattle.std.specs.Prelude.{◌≡◌, ◌<◌, ℕ, zero, suc, ◌-◌, ◌^◌, ◌==◌, ◌&&◌, Bool, true, false, List, [], ◌∷◌, length, take, Option, Some, None, is_some, slice_get, unwrap_or, if◌then◌else◌}
-use Rattle.gates.specs.Gate.{Plan}
+use Rattle.std.specs.Prelude.{◌≡◌, ◌<◌, ℕ, zero, suc, ◌-◌, ◌^◌, ◌==◌, ◌&&◌, ◌||◌, not, Bool, true, false, List, [], ◌∷◌, length, map, take, Option, Some, None, is_some, slice_get, unwrap_or, if◌then◌else◌}
 use Rattle.delay_bounds.specs.declared.Bound.{Bound}
-use Rattle.path_bounds.specs.Hops.{is_own}
+use Rattle.burst_bounds.specs.Talkers.{longest_need}
+use Rattle.stream_bounds.specs.Classes.{most_sdu, talker_of}
+use Rattle.stream_bounds.specs.Shared.{widest}
+use Rattle.stream_bounds.specs.Standing.{may_send}
+use Rattle.path_bounds.specs.Answers.{has_own}
+use Rattle.path_bounds.specs.Hops.{entry_of, is_own}
 use Rattle.path_bounds.specs.Judged.{AreJudged, Known, class_in, port_in, unjudged}
 use Rattle.path_bounds.specs.Start.{start_hops}
 use Rattle.path_bounds.specs.declared.hop.Coming.{Coming}
@@ -109,26 +113,40 @@ module _ (hops : List Hop) where
   abbrev pub has_bounds : (port class : ℕ) → Bool
   has_bounds port class = list_any (λ (h : Hop). is_own port class h && is_some h.bound) hops
 
--- 4. The network
+-- 4. Classes of which nothing else is known
+
+-- Nothing comes to a class: it has no hops, and no frame of another kind is sent.
+abbrev pub quiet_by : Option PathPort → (port class : ℕ) → List Hop → Bool
+quiet_by (Some p) port class hops = not (has_own port class hops) && not (may_send p.settings p.change class)
+quiet_by None port class hops = false
+
+-- For how long a frame that a port takes into a class needs the wire at most: as long as the longest of its streams; or, where it has none, as
+-- one that the port takes.
+abbrev pub limit_by : Option PathPort → (class : ℕ) → (own : List Hop) → Option ℕ
+limit_by None class own = None
+limit_by (Some p) class [] = Some (widest p.settings p.change class)
+limit_by (Some p) class (h ∷ own) =
+    Some (longest_need (map (talker_of p.settings.port.rate (most_sdu p.settings p.change class)) (map entry_of (h ∷ own))))
+
+-- 5. The network
 
 -- the place of a class among those that were judged
 abbrev pub order_in : List ℕ → (port class : ℕ) → ℕ
 order_in [] port class = 0
 order_in (pair ∷ pairs) port class = if (port_in pair == port) && (class_in pair == class) then 0 else suc (order_in pairs port class)
 
--- Of some classes may be known for how long a frame needs the wire at most.
-abbrev pub network_of : (limit : (port class : ℕ) → Option ℕ) → List PathPort → (clocks : ℕ) → Known → Network
-network_of limit ports clocks known = record {
+abbrev pub network_of : List PathPort → (clocks : ℕ) → Known → Network
+network_of ports clocks known = record {
   ports = λ (port : ℕ). port_by (slice_get ports port);
   streams = λ (place : ℕ). stream_by (slice_get known.hops place);
   hops = λ (port class : ℕ). class_from known.hops port class 0 known.hops;
-  judged = λ (port class : ℕ). has_bounds known.hops port class;
+  judged = λ (port class : ℕ). has_bounds known.hops port class || quiet_by (slice_get ports port) port class known.hops;
   order = λ (port class : ℕ). order_in known.order port class;
-  limit = limit;
+  limit = λ (port class : ℕ). limit_by (slice_get ports port) class (own_hops port class known.hops);
   clocks = clocks;
 }
 
--- 5. The law
+-- 6. The law
 
 -- Each port of a way is there, and all hops of a way are of one stream.
 pub record AreWays (ports : List PathPort) (ways : List WayHop) : Type 0 where
@@ -158,6 +176,6 @@ module _ (net : Network) (ports : List PathPort) (clocks : ℕ) (known : Known) 
 -- The law: so is the network of what is known once classes were judged one after another.
 abbrev pub BuiltLaw : Type 0
 BuiltLaw =
-    (limit : (port class : ℕ) → Option ℕ) (ports : List PathPort) (clocks : ℕ) (ways : List WayHop) (known : Known) → AreWays ports ways
+    (ports : List PathPort) (clocks : ℕ) (ways : List WayHop) (known : Known) → AreWays ports ways
     → AreJudged ports clocks (unjudged ports (start_hops ports false ways)) known → AreWhole known
-    → IsBuilt (network_of limit ports clocks known) ports clocks known
+    → IsBuilt (network_of ports clocks known) ports clocks known

@@ -1,6 +1,5 @@
 -- The claim for what is read of a network: what is found of it holds in every run of the network that is found.
-use Rattle.std.specs.Prelude.{◌≡◌, ℕ, true, false, List, Option, Some, slice_get}
-use Rattle.gates.specs.Gate.{keeps_apart}
+use Rattle.std.specs.Prelude.{◌≡◌, ℕ, true, false, List, Some, slice_get}
 use Rattle.abstract_port.specs.Traffic.{Came}
 use Rattle.path_bounds.specs.Judged.{AreJudged, Known, unjudged}
 use Rattle.path_bounds.specs.Start.{start_hops}
@@ -9,7 +8,6 @@ use Rattle.path_bounds.specs.declared.hop.PathPort.{PathPort}
 use Rattle.path_bounds.specs.declared.start.WayHop.{WayHop}
 use Rattle.claims.specs.Network.{IsNetworkRun, IsNumbered, Network, PortRun}
 use Rattle.claims.specs.NetworkClaim.{KeepsTime}
-use Rattle.claims.specs.Priority.{IsByPriority}
 use Rattle.path_claim.specs.Built.{AreWays, AreWhole, IsInClass, network_of, place_of}
 use Rattle.path_claim.specs.Ends.{EndsAsTold}
 use Rattle.path_claim.specs.Read.{IsRead}
@@ -22,12 +20,10 @@ module _ (net : Network) (ports : List PathPort) (clocks : ℕ) (known : Known) 
         → IsNumbered net h.port at.class (runs h.port) j (place_of known.hops h.port at.class k) n f at.hop
         → EndsAsTold net runs nominal h.port at.class j n p at.hop h (at.at).span (at.at).bound
 
--- The claim: so it is in every run, where the classes that share windows are judged by priority.
+-- The claim: so it is in every run.
 abbrev pub FoundClaim : Type 0
 FoundClaim =
-    (limit : (port class : ℕ) → Option ℕ) (ports : List PathPort) (clocks : ℕ) (ways : List WayHop) (known : Known)
+    (ports : List PathPort) (clocks : ℕ) (ways : List WayHop) (known : Known)
     → IsRead ports clocks ways → AreWays ports ways → AreJudged ports clocks (unjudged ports (start_hops ports false ways)) known → AreWhole known
-    → ((p class : ℕ) → (network_of limit ports clocks known).judged p class ≡ true
-    → keeps_apart ((network_of limit ports clocks known).ports p).plan.entries class ≡ false → IsByPriority (network_of limit ports clocks known) p class)
-    → (runs : ℕ → PortRun) (nominal : (stream n : ℕ) → ℕ) → IsNetworkRun (network_of limit ports clocks known) runs nominal
-    → IsKeptBy (network_of limit ports clocks known) ports clocks known runs nominal
+    → (runs : ℕ → PortRun) (nominal : (stream n : ℕ) → ℕ) → IsNetworkRun (network_of ports clocks known) runs nominal
+    → IsKeptBy (network_of ports clocks known) ports clocks known runs nominal

@@ -3,9 +3,8 @@
 -- The readers of a network and of its options give so much of streams, links and ports. Times are in picoseconds.
 use Rattle.std.specs.Prelude.{◌≡◌, ◌<◌, ◌≤◌, ℕ, ◌*◌, ◌^◌, false, List, Some, length, slice_get}
 use Rattle.wire_time.specs.Moment.{greatest_moment}
-use Rattle.wire_time.specs.declared.TheConstants.{MAX_PS_PER_OCTET}
+use Rattle.wire_time.specs.declared.TheConstants.{MAX_MTU, MAX_PS_PER_OCTET, MIN_PS_PER_OCTET}
 use Rattle.traffic.specs.Table.{IsSaid}
-use Rattle.traffic.specs.declared.table.Stream.{Stream}
 use Rattle.path_bounds.specs.Judged.{AreJudged, Known, unjudged}
 use Rattle.path_bounds.specs.Start.{start_hops}
 use Rattle.path_bounds.specs.declared.hop.PathPort.{PathPort}
@@ -21,10 +20,12 @@ pub record IsReadHop (w : WayHop) : Type 0 where
   pub len : w.stream.len < 2 ^ 32
   pub link : w.least ≤ greatest_moment
 
--- A port has a rate of those that there are. Its schedule is in force at moment zero for no longer than twice the greatest moment: for that and
+-- A port has a rate of those that there are, and an mtu within its limits. Its schedule is in force at moment zero for no longer than twice the greatest moment: for that and
 -- a cycle at the most.
 pub record IsReadPort (p : PathPort) : Type 0 where
+  pub least : MIN_PS_PER_OCTET ≤ p.settings.port.rate
   pub rate : p.settings.port.rate ≤ MAX_PS_PER_OCTET
+  pub mtu : p.settings.port.mtu ≤ MAX_MTU
   pub since : p.since ≤ 2 * greatest_moment
 
 -- So it is with all ports and all hops of ways, of which there are no more than any memory holds; and clocks differ by a time that a line says.

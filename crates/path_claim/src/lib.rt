@@ -5,7 +5,8 @@
 //! follow from one another, once classes are judged, is specs/Linked.antt, and that what is told of a class stays as it
 //! was is specs/Answered.antt; that it is judged after those from which its frames come is specs/Earlier.antt.
 //! So a network of which all is told is one of which the claim speaks: specs/Networks.antt, and specs/PathClaim.antt.
-//! What is told of the end of a way is specs/Ends.antt.
+//! What is told of the end of a way is specs/Ends.antt. The network that is found is one of those (specs/Built.antt), by
+//! what readers give (specs/Read.antt): and so what is found of it holds in every run, specs/Found.antt.
 #![tactic(auto)]
 
 ghost use Rattle.path_claim.specs.Answered.{AnsweredLaw};
@@ -41,7 +42,8 @@ pub fn linked_law()
 {}
 
 /// What is told in the end of a class that was judged is what was then: the windows of its hops, their bounds, which are
-/// those of the answer, and the answer about its streams, as the port gets them.
+/// those of the answer, and the answer about its streams, as the port gets them. So are the higher classes that share
+/// its windows, beside which it was judged.
 pub fn answered_law()
     ensures { AnsweredLaw }
 {}
@@ -65,7 +67,8 @@ pub fn sound_law()
 {}
 
 /// What is known once classes were judged one after another is told of a network: that with these ports, streams and
-/// classes. Each hop with a window and bounds is in it.
+/// classes. Each hop with a window and bounds is in it. That is so where each port of a way is there, its hops are of one
+/// stream, and no bound is cut off at what 128 bits hold.
 pub fn built_law()
     ensures { BuiltLaw }
 {}
@@ -102,7 +105,7 @@ pub fn earliest_law()
 {}
 
 /// What is found of a network that is read holds in every run of the network that is found: classes with bounds keep time,
-/// and frames end as is told, where the classes that share windows are judged by priority.
+/// and frames end as is told. Those that share windows are judged by priority there.
 pub fn found_claim()
     ensures { FoundClaim }
 {
