@@ -5,7 +5,7 @@ use Rattle.claims.specs.NetworkClaim.{NetworkClaim}
 use Rattle.path_claim.specs.Built.{network_of}
 use Rattle.path_claim.specs.Found.{FoundClaim}
 use Rattle.path_claim.proofs.BuiltLaws.{built_law}
-use Rattle.path_claim.proofs.EndLaws.{end_law}
+use Rattle.path_claim.proofs.EndLaws.{end_law, sooner_law}
 use Rattle.path_claim.proofs.PathLaws.{path_claim}
 use Rattle.path_claim.proofs.SharedLaws.{shared_is}
 use Rattle.path_claim.proofs.SmallLaws.{sent_law, small_law}
@@ -24,4 +24,7 @@ found_claim claim ports clocks ways known read are judged whole runs nominal run
       ends = λ k j n h p f there at numbered.
           end_law net ports clocks known runs nominal h.port at.class k j _ n f at.hop h p (since_small p.since (read.each_port h.port p there).since)
           ((built.is).ports_told h.port p there) (kept h.port at.class at.judged) at.at numbered;
+      no_sooner = λ k j n h p f x there at numbered e.
+          sooner_law net ports clocks known runs nominal h.port at.class k j _ n f at.hop h p ((built.is).ports_told h.port p there)
+          (run.ports h.port at.class at.judged) (kept h.port at.class at.judged) at.at numbered x e;
     }
