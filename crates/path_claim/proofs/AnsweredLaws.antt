@@ -589,7 +589,8 @@ module _ (ports : List PathPort) (clocks : ℕ) where
         where
           by : (lacking : Bool) → is_lacking step.port port class old.hops old.verdicts step.shares ≡ lacking
               → IsJudgedAs step.port port class old.hops old.verdicts step.shares lacking step.answer step.verdict
-              → ((step.answer ≡ unbounded Verdicts.Idle) × (step.verdict ≡ PairVerdicts.Unheard)) ⊎ IsKnownSo ports new (length old.order) pair step.port step.answer step.verdict
+              → ((step.answer ≡ unbounded Verdicts.Idle) × (step.verdict ≡ PairVerdicts.Unheard))
+              ⊎ IsKnownSo ports new (length old.order) pair step.port step.answer step.verdict
           by true is judged = inl judged
           by false is judged = inr (record {
             is = judged.1;

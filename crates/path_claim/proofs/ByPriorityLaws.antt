@@ -44,7 +44,7 @@ use Rattle.path_claim.proofs.ApartLaws.{are_by_wait, are_flows, talkers_are, wit
 use Rattle.path_claim.proofs.GivenLaws.{get_map}
 use Rattle.path_claim.proofs.PathLaws.{own_all}
 use Rattle.path_claim.proofs.SharingLaws.{IsSharing, bounds_by, shares_by}
-use Rattle.path_claim.proofs.TrafficLaws.{AreClassed, IsTimed, IsWithinLimits, are_talkers, longest_alike, longest_widest, need_most, streams_are, talker_in}
+use Rattle.path_claim.proofs.TrafficLaws.{AreClassed, IsTimed, IsWithinLimits, are_talkers, longest_alike, longest_widest, need_below, need_most, streams_are, talker_in}
 
 -- ---- lists
 
@@ -405,7 +405,24 @@ module _ (known : Known) (p : PathPort) (port : ℕ) (limits : IsWithinLimits p.
         let le = need_least p.settings p.change k j at.hops (own k) at.alike some in
         omega (arith, need, is, le)
 
-    -- and one without streams what the port takes
+    -- a lower one what the port takes
+    needs_below : (k : ℕ) → k < 8 → k < j → (own k ≡ [] → ⊥) → needs sh.traffic.traffic k ≡ widest p.settings p.change k
+    needs_below k small lower some =
+        let long = sh.traffic.are.0 in
+        let t = one_at sh.traffic.traffic k (omega (arith, small, long)) in
+        let at = is_at k t.0 t.1 in
+        ap need_of t.1 ∙ (at.need ∙ (ap (need_beside p.settings p.change j k) at.talkers ∙ by at.hops at.alike))
+      where
+        by : (hs : List Hop) → map fixed hs ≡ map fixed (own k) → need_beside p.settings p.change j k (talkers_of k hs) ≡ widest p.settings p.change k
+        by [] alike = absurd (some (no_own (own k) alike))
+          where
+            no_own : (ys : List Hop) → [] ≡ map fixed ys → ys ≡ []
+            no_own [] e = refl
+            no_own (y ∷ ys) e = absurd (none-some (fixed y) (ap (λ (zs : List Hop). slice_get zs 0) e))
+        by (h ∷ hs) alike =
+            need_below p.settings p.change k j (talkers_of k (h ∷ hs)) (talker_in p.settings p.change k (entry_of h)) (talkers_of k hs) refl lower
+
+    -- and one without streams too, or nothing
     needs_none : (k : ℕ) → k < 8 → own k ≡ [] → needs sh.traffic.traffic k ≡ (if may_send p.settings p.change k then widest p.settings p.change k else 0)
     needs_none k small none =
         let long = sh.traffic.are.0 in
@@ -418,6 +435,16 @@ module _ (known : Known) (p : PathPort) (port : ℕ) (limits : IsWithinLimits p.
         no_hops : (hs : List Hop) → map fixed hs ≡ [] → hs ≡ []
         no_hops [] e = refl
         no_hops (h ∷ hs) e = absurd (none-some (fixed h) (sym (ap (λ (ys : List Hop). slice_get ys 0) e)))
+
+apart_less : (m n : ℕ) → m ≤ n → (m ≡ n → ⊥) → m < n
+apart_less m n le other = by (nat_lt m n) refl
+  where
+    by : (t : Bool) → nat_lt m n ≡ t → m < n
+    by true less = ltb-true m n less
+    by false not_less = absurd (other (same (ltb-false m n not_less)))
+      where
+        same : n ≤ m → m ≡ n
+        same ge = omega (arith, le, ge)
 
 -- ---- all of them together
 
@@ -446,7 +473,10 @@ module _ (net : Network) (ports : List PathPort) (known : Known) (p : PathPort) 
     (quiet : (class : ℕ) → own_hops port class known.hops ≡ [] → may_send p.settings p.change class ≡ false
     → (net.judged port class ≡ true) × (net.hops port class ≡ []))
     (limit_none : (class : ℕ) → own_hops port class known.hops ≡ [] → net.limit port class ≡ Some (widest p.settings p.change class))
-    (limit_some : (class : ℕ) → (own_hops port class known.hops ≡ [] → ⊥)
+    (limit_any : (class : ℕ) → (own_hops port class known.hops ≡ [] → ⊥) → (net.limit port class ≡ Some (widest p.settings p.change class))
+    ⊎ (net.limit port class
+    ≡ Some (longest_need (map (talker_in p.settings p.change class) (map entry_of (own_hops port class known.hops))))))
+    (limit_some : (class j place : ℕ) → IsSharing known p port j place → j < class → (own_hops port class known.hops ≡ [] → ⊥)
     → net.limit port class ≡ Some (longest_need (map (talker_in p.settings p.change class) (map entry_of (own_hops port class known.hops)))))
     (class : ℕ) (small : class < 8) (shares : shares_at known p port limits classed timed class ≡ true) where
   abbrev Sh : (j place : ℕ) → Type 0
@@ -694,6 +724,29 @@ module _ (net : Network) (ports : List PathPort) (known : Known) (p : PathPort) 
       c : IsChosen j (traffic j)
       c = chosen j is
 
+      by_limit : (own_of_class k ≡ [] → ⊥) → k < j
+          → (net.limit port k ≡ Some (widest p.settings p.change k))
+          ⊎ (net.limit port k ≡ Some (longest_need (map (talker_in p.settings p.change k) (map entry_of (own_of_class k)))))
+          → NeedsUpTo net port k (needs (traffic j) k)
+      by_limit has lower (inl wide) =
+          let need = ap (λ (ts : List ClassTraffic). needs ts k) c.is
+          ∙ needs_below known p port limits classed timed j c.place c.sh k less lower has in
+          inr (widest p.settings p.change k, wide, omega (arith, need))
+      by_limit has lower (inr long) =
+          inr (longest_need (map (talker_in p.settings p.change k) (map entry_of (own_of_class k))), long, needs_above j k is less has)
+
+      other_is : j ≡ k → ⊥
+      other_is e = true≢false (sym (subst (λ (n : ℕ). beside n ≡ true) e is) ∙ not_beside)
+
+      by_place : (own_of_class k ≡ [] → ⊥) → (t : Bool) → nat_lt k j ≡ t → NeedsUpTo net port k (needs (traffic j) k)
+      by_place has true lower = by_limit has (ltb-true k j lower) (limit_any k has)
+      by_place has false not_lower =
+          inr (
+            longest_need (map (talker_in p.settings p.change k) (map entry_of (own_of_class k))),
+            limit_some k j c.place c.sh (apart_less j k (ltb-false k j not_lower) other_is) has,
+            needs_above j k is less has,
+          )
+
       sends : own_of_class k ≡ [] → (t : Bool) → may_send p.settings p.change k ≡ t → t ≡ true
       sends none true is_so = refl
       sends none false is_not =
@@ -709,7 +762,7 @@ module _ (net : Network) (ports : List PathPort) (known : Known) (p : PathPort) 
       by (h ∷ hops) some =
           let has : own_of_class k ≡ [] → ⊥ = λ none. none-some h (sym (ap (λ (hs : List Hop). slice_get hs 0) none)
           ∙ ap (λ (hs : List Hop). slice_get hs 0) some) in
-          inr (longest_need (map (talker_in p.settings p.change k) (map entry_of (own_of_class k))), limit_some k has, needs_above j k is less has)
+          by_place has (nat_lt k j) refl
 
   pub by_priority : IsByPriority net port class
   by_priority =

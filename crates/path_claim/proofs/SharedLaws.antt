@@ -1,6 +1,6 @@
 -- In the network that is found, classes that share windows are judged by priority.
-use Rattle.std.proofs.Common.{◌≡◌, ◌<◌, ◌⊎◌, inl, inr, ℕ, zero, suc, ◌&&◌, not, cond, Bool, true, false, List, [], ◌∷◌, length, map, Option, Some, is_some, slice_get, refl, sym, ap, ◌∙◌, subst}
-use Rattle.std.proofs.lemmas.Bool.{and_from, or_left, or_right}
+use Rattle.std.proofs.Common.{◌≡◌, ◌<◌, ◌⊎◌, inl, inr, ℕ, zero, suc, ◌==◌, ◌&&◌, not, cond, Bool, true, false, List, [], ◌∷◌, length, map, Option, Some, is_some, slice_get, refl, sym, ap, ◌∙◌, subst}
+use Rattle.std.proofs.lemmas.Bool.{and_from, eq-eqb, lt-ltb, or_left, or_right}
 use Rattle.std.proofs.lemmas.Option.{none-some, same_Some}
 use Rattle.any_traffic.proofs.ListLaws.{none_here}
 use Rattle.gates.specs.Gate.{keeps_apart}
@@ -24,11 +24,11 @@ use Rattle.path_bounds.specs.declared.start.WayHop.{WayHop}
 use Rattle.claims.specs.Network.{Hop as NetworkHop, Network, NetworkPort}
 use Rattle.claims.specs.Priority.{IsByPriority}
 use Rattle.path_claim.specs.Answered.{AreGiven, IsAnswered, IsKnownSo, own_hops}
-use Rattle.path_claim.specs.Built.{AreWays, AreWhole, IsBuilt, has_bounds, limit_by, network_of, quiet_by}
+use Rattle.path_claim.specs.Built.{AreWays, AreWhole, IsBuilt, has_below, has_bounds, is_below, limit_by, network_of, quiet_by}
 use Rattle.path_claim.specs.PathClaim.{AreHopsAs}
 use Rattle.path_claim.specs.Read.{IsRead}
 use Rattle.path_claim.specs.Told.{AreHopsTold}
-use Rattle.path_claim.proofs.AnsweredLaws.{answered_law, class_small, has_none, listed_law}
+use Rattle.path_claim.proofs.AnsweredLaws.{answered_law, class_small, has_none, listed_law, own_parts}
 use Rattle.path_claim.proofs.BuiltLaws.{built_law}
 use Rattle.path_claim.proofs.ByPriorityLaws.{by_priority}
 use Rattle.path_claim.proofs.FullLaws.{given_bound, some_any}
@@ -96,10 +96,13 @@ module _ (ports : List PathPort) (clocks : ℕ) (ways : List WayHop) (known : Kn
           counted = well.counted;
         }
 
-    judged_is : (class place : ℕ) → IsSharing known p port class place → net.judged port class ≡ true
-    judged_is class place sh = by (own_hops port class known.hops) refl
+    -- a hop of a class that was judged by priority, with its bounds
+    bounded_hop : (class place : ℕ) → IsSharing known p port class place
+        → (k : ℕ) × (h : Hop) × (slice_get known.hops k ≡ Some h) × (is_own port class h ≡ true) × (is_some h.bound ≡ true)
+    bounded_hop class place sh = by (own_hops port class known.hops) refl
       where
-        by : (hops : List Hop) → own_hops port class known.hops ≡ hops → net.judged port class ≡ true
+        by : (hops : List Hop) → own_hops port class known.hops ≡ hops
+            → (k : ℕ) × (h : Hop) × (slice_get known.hops k ≡ Some h) × (is_own port class h ≡ true) × (is_some h.bound ≡ true)
         by [] none = absurd (sh.some none)
         by (h ∷ hops) some =
             let at : slice_get (own_hops port class known.hops) 0 ≡ Some h = ap (λ (hs : List Hop). slice_get hs 0) some in
@@ -108,9 +111,22 @@ module _ (ports : List PathPort) (clocks : ℕ) (ways : List WayHop) (known : Kn
             = given_bound sh.answer.left 0 (own_hops port class known.hops) 0 h sh.given at
             ∙ (ap (λ (bs : List Bound). slice_get bs 0) sh.traffic.left
             ∙ ap (λ (hs : List Hop). slice_get (map (range_of sh.traffic.bounds.wait) (map entry_of hs)) 0) some) in
-            or_left (has_bounds known.hops port class) (quiet_by (slice_get ports port) port class known.hops)
-            (some_any (λ (h : Hop). is_own port class h && is_some h.bound) known.hops back.0 h back.1
-            (and_from (is_own port class h) (is_some h.bound) back.2 (ap (λ (o : Option Bound). is_some o) bound)))
+            (back.0, h, back.1, back.2, ap (λ (o : Option Bound). is_some o) bound)
+
+    judged_is : (class place : ℕ) → IsSharing known p port class place → net.judged port class ≡ true
+    judged_is class place sh =
+        let it = bounded_hop class place sh in
+        or_left (has_bounds known.hops port class) (quiet_by (slice_get ports port) port class known.hops)
+        (some_any (λ (h : Hop). is_own port class h && is_some h.bound) known.hops it.0 it.1 it.2
+        (and_from (is_own port class it.1) (is_some (it.1).bound) it.3 it.4))
+
+    below_is : (class j place : ℕ) → IsSharing known p port j place → j < class → has_below known.hops port class ≡ true
+    below_is class j place sh less =
+        let it = bounded_hop j place sh in
+        let own = own_parts port j it.1 it.3 in
+        some_any (λ (h : Hop). (h.port == port && is_below h.class class) && is_some h.bound) known.hops it.0 it.1 it.2
+        (and_from _ _ (and_from _ _ (eq-eqb (it.1).port port own.0)
+        (ap (λ (o : Option ℕ). is_below o class) own.1 ∙ lt-ltb j class less)) it.4)
 
     told_is : (class place : ℕ) (sh : IsSharing known p port class place)
         → AreHopsTold net p class (net.hops port class) (own_hops port class known.hops) sh.answer.left
@@ -138,17 +154,33 @@ module _ (ports : List PathPort) (clocks : ℕ) (ways : List WayHop) (known : Kn
         no_hops (a ∷ those) [] none same = absurd same
         no_hops (a ∷ those) (h ∷ hops) none same = absurd (none-some h (sym (ap (λ (hs : List Hop). slice_get hs 0) none)))
 
-    limit_none : (class : ℕ) → own_hops port class known.hops ≡ [] → net.limit port class ≡ Some (widest p.settings p.change class)
-    limit_none class none =
-        ap (λ (o : Option PathPort). limit_by o class (own_hops port class known.hops)) there
-        ∙ ap (λ (hs : List Hop). limit_by (Some p) class hs) none
+    abbrev longest : (class : ℕ) → List Hop → ℕ
+    longest class hops = longest_need (map (talker_in p.settings p.change class) (map entry_of hops))
 
-    limit_some : (class : ℕ) → (own_hops port class known.hops ≡ [] → ⊥)
-        → net.limit port class ≡ Some (longest_need (map (talker_in p.settings p.change class) (map entry_of (own_hops port class known.hops))))
-    limit_some class some = ap (λ (o : Option PathPort). limit_by o class (own_hops port class known.hops)) there ∙ by (own_hops port class known.hops) some
+    limit_at : (class : ℕ) → net.limit port class ≡ limit_by (Some p) class (has_below known.hops port class) (own_hops port class known.hops)
+    limit_at class = ap (λ (o : Option PathPort). limit_by o class (has_below known.hops port class) (own_hops port class known.hops)) there
+
+    limit_none : (class : ℕ) → own_hops port class known.hops ≡ [] → net.limit port class ≡ Some (widest p.settings p.change class)
+    limit_none class none = limit_at class ∙ ap (λ (hs : List Hop). limit_by (Some p) class (has_below known.hops port class) hs) none
+
+    limit_any : (class : ℕ) → (own_hops port class known.hops ≡ [] → ⊥) → (net.limit port class ≡ Some (widest p.settings p.change class))
+        ⊎ (net.limit port class ≡ Some (longest class (own_hops port class known.hops)))
+    limit_any class some = by (has_below known.hops port class) (own_hops port class known.hops) some (limit_at class)
       where
-        by : (hops : List Hop) → (hops ≡ [] → ⊥)
-            → limit_by (Some p) class hops ≡ Some (longest_need (map (talker_in p.settings p.change class) (map entry_of hops)))
+        by : (below : Bool) (hops : List Hop) → (hops ≡ [] → ⊥) → net.limit port class ≡ limit_by (Some p) class below hops
+            → (net.limit port class ≡ Some (widest p.settings p.change class)) ⊎ (net.limit port class ≡ Some (longest class hops))
+        by below [] some is = absurd (some refl)
+        by true (h ∷ hops) some is = inr is
+        by false (h ∷ hops) some is = inl is
+
+    limit_some : (class j place : ℕ) → IsSharing known p port j place → j < class → (own_hops port class known.hops ≡ [] → ⊥)
+        → net.limit port class ≡ Some (longest class (own_hops port class known.hops))
+    limit_some class j place sh less some =
+        limit_at class
+        ∙ (ap (λ (t : Bool). limit_by (Some p) class t (own_hops port class known.hops)) (below_is class j place sh less)
+        ∙ by (own_hops port class known.hops) some)
+      where
+        by : (hops : List Hop) → (hops ≡ [] → ⊥) → limit_by (Some p) class true hops ≡ Some (longest class hops)
         by [] some = absurd (some refl)
         by (h ∷ hops) some = refl
 
@@ -157,7 +189,7 @@ module _ (ports : List PathPort) (clocks : ℕ) (ways : List WayHop) (known : Kn
     by_priority_at class small shares =
         by_priority net ports known p port there ((built.is).ports_told port p there) limits classed timed
         (λ (c : ℕ) less is. is_sharing ports known answered (listed_law ports clocks (start_hops ports false ways) known judged) p port c there less is)
-        (built.is).order judged_is told_is quiet_is limit_none limit_some class small shares
+        (built.is).order judged_is told_is quiet_is limit_none limit_any limit_some class small shares
 
   pub shared_is : (port class : ℕ) → net.judged port class ≡ true → keeps_apart (net.ports port).plan.entries class ≡ false
       → (net.hops port class ≡ [] → ⊥) → IsByPriority net port class

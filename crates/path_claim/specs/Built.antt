@@ -3,7 +3,7 @@
 -- A stream is numbered by the place of the first hop of its way. A class is judged where it has bounds, or where nothing comes to it; its order
 -- is its place among the classes that were judged.
 use Rattle.std.specs.List.{list_any}
-use Rattle.std.specs.Prelude.{◌≡◌, ◌<◌, ℕ, zero, suc, ◌-◌, ◌^◌, ◌==◌, ◌&&◌, ◌||◌, not, Bool, true, false, List, [], ◌∷◌, length, map, take, Option, Some, None, is_some, slice_get, unwrap_or, if◌then◌else◌}
+use Rattle.std.specs.Prelude.{◌≡◌, ◌<◌, ℕ, zero, suc, ◌-◌, ◌^◌, ◌==◌, ◌&&◌, ◌||◌, not, nat_lt, Bool, true, false, List, [], ◌∷◌, length, map, take, Option, Some, None, is_some, slice_get, unwrap_or, if◌then◌else◌}
 use Rattle.delay_bounds.specs.declared.Bound.{Bound}
 use Rattle.burst_bounds.specs.Talkers.{longest_need}
 use Rattle.stream_bounds.specs.Classes.{most_sdu, talker_of}
@@ -62,6 +62,11 @@ abbrev pub begins_at : Option Hop → Bool
 begins_at (Some h) = h.first
 begins_at None = false
 
+-- a class is below one
+abbrev pub is_below : Option ℕ → (class : ℕ) → Bool
+is_below (Some d) class = nat_lt d class
+is_below None class = false
+
 abbrev pub span_of : Coming → Span
 span_of (Comings.Within s) = s
 span_of Comings.Awaited = no_span
@@ -109,6 +114,10 @@ module _ (hops : List Hop) where
   class_from port class k (h ∷ behind) =
       if is_own port class h then hop_at k h ∷ class_from port class (suc k) behind else class_from port class (suc k) behind
 
+  -- some lower class of a port has bounds
+  abbrev pub has_below : (port class : ℕ) → Bool
+  has_below port class = list_any (λ (h : Hop). (h.port == port && is_below h.class class) && is_some h.bound) hops
+
   -- a class has bounds
   abbrev pub has_bounds : (port class : ℕ) → Bool
   has_bounds port class = list_any (λ (h : Hop). is_own port class h && is_some h.bound) hops
@@ -120,12 +129,13 @@ abbrev pub quiet_by : Option PathPort → (port class : ℕ) → List Hop → Bo
 quiet_by (Some p) port class hops = not (has_own port class hops) && not (may_send p.settings p.change class)
 quiet_by None port class hops = false
 
--- For how long a frame that a port takes into a class needs the wire at most: as long as the longest of its streams; or, where it has none, as
--- one that the port takes.
-abbrev pub limit_by : Option PathPort → (class : ℕ) → (own : List Hop) → Option ℕ
-limit_by None class own = None
-limit_by (Some p) class [] = Some (widest p.settings p.change class)
-limit_by (Some p) class (h ∷ own) =
+-- For how long a frame that a port takes into a class needs the wire at most: as any that the port takes; or, where a lower class has bounds, as
+-- the longest of its streams, if it has some.
+abbrev pub limit_by : Option PathPort → (class : ℕ) → (below : Bool) → (own : List Hop) → Option ℕ
+limit_by None class below own = None
+limit_by (Some p) class below [] = Some (widest p.settings p.change class)
+limit_by (Some p) class false (h ∷ own) = Some (widest p.settings p.change class)
+limit_by (Some p) class true (h ∷ own) =
     Some (longest_need (map (talker_of p.settings.port.rate (most_sdu p.settings p.change class)) (map entry_of (h ∷ own))))
 
 -- 5. The network
@@ -142,7 +152,7 @@ network_of ports clocks known = record {
   hops = λ (port class : ℕ). class_from known.hops port class 0 known.hops;
   judged = λ (port class : ℕ). has_bounds known.hops port class || quiet_by (slice_get ports port) port class known.hops;
   order = λ (port class : ℕ). order_in known.order port class;
-  limit = λ (port class : ℕ). limit_by (slice_get ports port) class (own_hops port class known.hops);
+  limit = λ (port class : ℕ). limit_by (slice_get ports port) class (has_below known.hops port class) (own_hops port class known.hops);
   clocks = clocks;
 }
 

@@ -20,8 +20,8 @@ pub record IsReadHop (w : WayHop) : Type 0 where
   pub len : w.stream.len < 2 ^ 32
   pub link : w.least ≤ greatest_moment
 
--- A port has a rate of those that there are, and an mtu within its limits. Its schedule is in force at moment zero for no longer than twice the greatest moment: for that and
--- a cycle at the most.
+-- A port has a rate of those that there are, and an mtu within its limits. Its schedule is in force at moment zero for no longer than twice
+-- the greatest moment: for that and a cycle at the most.
 pub record IsReadPort (p : PathPort) : Type 0 where
   pub least : MIN_PS_PER_OCTET ≤ p.settings.port.rate
   pub rate : p.settings.port.rate ≤ MAX_PS_PER_OCTET
