@@ -102,7 +102,7 @@ greatest_by true greatest width known = refl
 greatest_by false greatest width known = absurd (true≢false (sym known))
 
 -- the shorter of two frames needs the wire for no longer
-lesser_need : (ps a b : ℕ) → a ≤ b → occupancy_of ps a ≤ occupancy_of ps b
+pub lesser_need : (ps a b : ℕ) → a ≤ b → occupancy_of ps a ≤ occupancy_of ps b
 lesser_need ps a b le =
     let octets : wire_octets a ≤ wire_octets b = omega (arith, le) in
     mul-le (wire_octets a) ps (wire_octets b) ps octets (let same : ps ≤ ps = omega arith in same)
@@ -135,7 +135,7 @@ module _ (net : Network) (port class : ℕ) (p : PathPort) (same : net.ports por
   apart : keeps_apart (plan_asked p.change).entries class ≡ true → keeps_apart (net.ports port).plan.entries class ≡ true
   apart is = ap (λ (q : Plan). keeps_apart q.entries class) plan_is ∙ is
 
-  within_room_of : (most : ℕ) → nat_le most p.settings.port.room ≡ true → most ≤ (net.ports port).room
+  pub within_room_of : (most : ℕ) → nat_le most p.settings.port.room ≡ true → most ≤ (net.ports port).room
   within_room_of most fits =
       let le = leb-true most p.settings.port.room fits in
       let room = room_is in
@@ -273,7 +273,7 @@ module _ (net : Network) (port class : ℕ) (p : PathPort) (same : net.ports por
   none_left [] h hops are = are
   none_left (a ∷ those) h hops are = are
 
-  talkers_are : (those : List NetworkHop) (hops : List Hop) (bounds : List Bound) → AreTold those hops bounds
+  pub talkers_are : (those : List NetworkHop) (hops : List Hop) (bounds : List Bound) → AreTold those hops bounds
       → map (talker_at net port) those ≡ flows_of (map talker (map entry_of hops))
   talkers_are [] [] [] are = refl
   talkers_are (a ∷ those) (h ∷ hops) (b ∷ bounds) are =
@@ -281,7 +281,7 @@ module _ (net : Network) (port class : ℕ) (p : PathPort) (same : net.ports por
       ∙ ap (λ (ys : List Sporadic). sporadic_of (talker (entry_of h)) ∷ ys) (talkers_are those hops bounds are.1)
   talkers_are those hops bounds are = absurd are
 
-  are_flows : (d : ℕ) (those : List NetworkHop) (hops : List Hop) (bounds : List Bound) → AreTold those hops bounds
+  pub are_flows : (d : ℕ) (those : List NetworkHop) (hops : List Hop) (bounds : List Bound) → AreTold those hops bounds
       → longest_need (map talker (map entry_of hops)) ≤ d → AreFlows d (flows_of (map talker (map entry_of hops)))
   are_flows d [] [] [] are few i f e = absurd (none_here i f e)
   are_flows d (a ∷ those) (h ∷ hops) (b ∷ bounds) are few zero f e =
@@ -300,7 +300,7 @@ module _ (net : Network) (port class : ℕ) (p : PathPort) (same : net.ports por
       rest m n le = omega (arith, le)
   are_flows d those hops bounds are few i f e = absurd are
 
-  are_by_wait : (wait : ℕ) (those : List NetworkHop) (hops : List Hop) (bounds : List Bound) → AreTold those hops bounds
+  pub are_by_wait : (wait : ℕ) (those : List NetworkHop) (hops : List Hop) (bounds : List Bound) → AreTold those hops bounds
       → bounds ≡ map (range_of wait) (map entry_of hops)
       → (i : ℕ) (a : NetworkHop) → slice_get those i ≡ Some a → (a.bound.least ≡ 0) × (a.latest + wait ≤ a.earliest + a.bound.greatest)
   are_by_wait wait [] [] [] are range i a e = absurd (none_here i a e)

@@ -6,7 +6,7 @@ use Rattle.std.proofs.lemmas.Option.{none-some, same_Some, slice_get_within}
 use Rattle.delay_bounds.specs.declared.Bound.{Bound}
 use Rattle.any_traffic.proofs.ListLaws.{get_last, get_more, none_here}
 use Rattle.path_bounds.specs.Hops.{arrived, coming_at, is_awaited, is_own, leaving_of, passed_by, passed_on}
-use Rattle.path_bounds.specs.Judged.{AreSteps, IsStep, Known, class_in, port_in, unjudged}
+use Rattle.path_bounds.specs.Judged.{AreJudged, AreSteps, IsStep, Known, class_in, port_in, unjudged}
 use Rattle.path_bounds.specs.Start.{hop_of, never_behind, start_hops, with_port}
 use Rattle.path_bounds.specs.declared.hop.Coming.TheVariants as Comings
 use Rattle.path_bounds.specs.declared.hop.Hop.{Hop}
@@ -21,12 +21,17 @@ use Rattle.path_claim.proofs.AnsweredLaws as Answers
 use Rattle.path_claim.proofs.LinkedLaws as Links
 
 -- a hop with bounds is of a class that was judged
-abbrev IsHeldIn : (order : List ℕ) → Hop → Type 0
+abbrev pub IsHeldIn : (order : List ℕ) → Hop → Type 0
 IsHeldIn order h = (b : Bound) → h.bound ≡ Some b → (i r : ℕ) × (slice_get order i ≡ Some r) × (h.port ≡ port_in r) × (h.class ≡ Some (class_in r))
 
-abbrev AreHeldIn : (order : List ℕ) → List Hop → Type 0
+abbrev pub AreHeldIn : (order : List ℕ) → List Hop → Type 0
 AreHeldIn order [] = Unit {0}
 AreHeldIn order (h ∷ hops) = IsHeldIn order h × AreHeldIn order hops
+
+pub held_at : (order : List ℕ) (hops : List Hop) (k : ℕ) (h : Hop) → AreHeldIn order hops → slice_get hops k ≡ Some h → IsHeldIn order h
+held_at order [] k h are e = absurd (none_here k h e)
+held_at order (x ∷ hops) zero h are e = subst (λ (y : Hop). IsHeldIn order y) (same_Some x h e) are.0
+held_at order (x ∷ hops) (suc k) h are e = held_at order hops k h are.1 e
 
 -- so is one before another
 abbrev IsHeldBefore : (order : List ℕ) → Option Hop → Type 0
@@ -38,16 +43,6 @@ abbrev Stays : (old new : Option Hop) → Type 0
 Stays None new = Unit {0}
 Stays (Some g) None = ⊥
 Stays (Some g) (Some k) = (k.port ≡ g.port) × (k.class ≡ g.class)
-
-last_at : (xs : List ℕ) (x i y : ℕ) → slice_get (xs ++ x ∷ []) i ≡ Some y → (slice_get xs i ≡ Some y) ⊎ ((x ≡ y) × (i ≡ length xs))
-last_at [] x zero y e = inr (same_Some x y e, refl)
-last_at [] x (suc i) y e = absurd (none_here i y e)
-last_at (z ∷ xs) x zero y e = inl e
-last_at (z ∷ xs) x (suc i) y e = by (last_at xs x i y e)
-  where
-    by : (slice_get xs i ≡ Some y) ⊎ ((x ≡ y) × (i ≡ length xs)) → (slice_get xs i ≡ Some y) ⊎ ((x ≡ y) × (suc i ≡ suc (length xs)))
-    by (inl before) = inl before
-    by (inr is) = inr (is.0, ap suc is.1)
 
 module _ (ports : List PathPort) (clocks : ℕ) where
   begin_held : (ways : List WayHop) (never : Bool) → AreHeldIn [] (start_hops ports never ways)
@@ -207,7 +202,7 @@ module _ (ports : List PathPort) (clocks : ℕ) where
     held = subst (λ (o : List ℕ). AreHeldIn o new.hops) (sym step.order)
         (subst (λ (hs : List Hop). AreHeldIn (old.order ++ pair ∷ []) hs) (sym step.hops)
         (held_on pair step.port (step.answer).left old.order old.hops 0 Leavings.Other kept.held));
-    later = λ (j q : ℕ) e. by j q (last_at old.order pair j q (sym (ap (λ (xs : List ℕ). slice_get xs j) step.order) ∙ e));
+    later = λ (j q : ℕ) e. by j q (Answers.last_at old.order pair j q (sym (ap (λ (xs : List ℕ). slice_get xs j) step.order) ∙ e));
   }
     where
       moved : (j q : ℕ)
@@ -235,11 +230,19 @@ module _ (ports : List PathPort) (clocks : ℕ) where
   steps_kept [] old new kept steps = subst (λ (k : Known). IsKept k) steps kept
   steps_kept (pair ∷ pairs) old new kept steps = steps_kept pairs steps.0 new (step_kept pair old steps.0 kept steps.1) steps.2
 
-pub earlier_law : EarlierLaw
-earlier_law ports clocks ways known judged =
-    (steps_kept ports clocks known.order (unjudged ports (start_hops ports false ways)) known (record {
+all_kept : (ports : List PathPort) (clocks : ℕ) (ways : List WayHop) (known : Known)
+    → AreJudged ports clocks (unjudged ports (start_hops ports false ways)) known → IsKept ports clocks known
+all_kept ports clocks ways known judged =
+    steps_kept ports clocks known.order (unjudged ports (start_hops ports false ways)) known (record {
       links = Links.begin_kept ports clocks ways;
       answers = Answers.begin_kept ports clocks (start_hops ports false ways);
       held = begin_held ports clocks ways false;
       later = λ (j q : ℕ) e. absurd (none_here j q e);
-    }) judged.steps).later
+    }) judged.steps
+
+pub held_law : (ports : List PathPort) (clocks : ℕ) (ways : List WayHop) (known : Known)
+    → AreJudged ports clocks (unjudged ports (start_hops ports false ways)) known → AreHeldIn known.order known.hops
+held_law ports clocks ways known judged = (all_kept ports clocks ways known judged).held
+
+pub earlier_law : EarlierLaw
+earlier_law ports clocks ways known judged = (all_kept ports clocks ways known judged).later

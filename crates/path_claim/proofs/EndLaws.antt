@@ -1,18 +1,23 @@
 -- The end of a way is as it is told.
-use Rattle.std.proofs.Common.{◌≡◌, ◌<◌, ◌≤◌, ℕ, ◌+◌, ◌-◌, ◌^◌, Bool, true, false, List, is_some, if◌then◌else◌, refl, ap, ◌∙◌, arith}
+use Rattle.std.proofs.Common.{◌≡◌, ◌<◌, ◌≤◌, ℕ, ◌+◌, ◌-◌, ◌^◌, Bool, true, false, List, Some, is_some, slice_get, if◌then◌else◌, refl, sym, ap, ◌∙◌, arith}
+use Rattle.std.proofs.lemmas.Option.{same_Some}
 use Rattle.wire_time.specs.Wire.{occupancy_of}
+use Rattle.abstract_port.specs.declared.Start.{Start}
+use Rattle.abstract_port.specs.Traffic.{Came}
+use Rattle.any_traffic.proofs.OwnStarts.{own_starts_law}
 use Rattle.delay_bounds.specs.declared.Bound.{Bound}
 use Rattle.stream_bounds.specs.Verdicts.{plus}
 use Rattle.path_bounds.specs.Hops.{greatest_of}
 use Rattle.path_bounds.specs.Judged.{Known}
 use Rattle.path_bounds.specs.declared.hop.Hop.{Hop}
 use Rattle.path_bounds.specs.declared.hop.PathPort.{PathPort}
-use Rattle.claims.specs.Network.{Hop as NetworkHop, Network, NetworkPort, NetworkStream}
+use Rattle.claims.specs.Network.{Hop as NetworkHop, Network, NetworkPort, NetworkStream, queued_at}
 use Rattle.claims.specs.Promise.{need_at}
-use Rattle.path_claim.specs.Ends.{EndLaw, first_end, last_end}
+use Rattle.path_claim.specs.Ends.{EndLaw, SoonerLaw, first_end, last_end}
 use Rattle.path_claim.specs.Networks.{IsHopAt}
 use Rattle.path_claim.specs.Told.{port_told}
 use Rattle.path_claim.specs.Windows.{longest_wait}
+use Rattle.path_claim.proofs.ApartLaws.{lesser_need}
 use Rattle.path_claim.proofs.WindowLaws.{plus_below, plus_whole}
 
 -- ---- sums
@@ -42,7 +47,7 @@ wait_whole true greatest width less = refl
 wait_whole false greatest width less = plus_whole greatest width less
 
 module _ (net : Network) (ports : List PathPort) (clocks : ℕ) (known : Known) (port class place : ℕ) (a : NetworkHop) (h : Hop) (p : PathPort)
-    (far : p.since < 2 ^ 127) (same : net.ports port ≡ port_told p) (at : IsHopAt net ports clocks known port class a place h) where
+    (same : net.ports port ≡ port_told p) (at : IsHopAt net ports clocks known port class a place h) where
   since_is : (net.ports port).since ≡ p.since
   since_is = ap (λ (q : NetworkPort). q.since) same
 
@@ -67,10 +72,22 @@ module _ (net : Network) (ports : List PathPort) (clocks : ℕ) (known : Known) 
       sums : (told s t e f b c n m : ℕ) → s ≡ t → e ≡ f → b ≡ c → n ≡ m → told + t ≤ f + c + m → told + s ≤ e + b + n
       sums told s t e f b c n m one two three four le = omega (arith, one, two, three, four, le)
 
-  last : last_end p h.stream at.span at.bound - p.since < 2 ^ 126
+  -- in whole sums
+  whole_first : (base e : ℕ) → base + a.earliest + a.bound.least + need_at net port (net.streams a.stream).shortest ≤ e
+      → base + (net.ports port).since + first_end p h.stream at.span at.bound ≤ e + p.since
+  whole_first base e le =
+      sums _ _ _ _ _ _ _ _ _ _ since_is at.earliest (ap (λ (c : Bound). c.least) at.waits) shortest_is
+      (plus_below (plus (at.span).earliest (at.bound).least) (occupancy_of p.settings.port.rate (h.stream).shortest))
+      (plus_below (at.span).earliest (at.bound).least) le
+    where
+      sums : (told m s t x y b c n o : ℕ) → s ≡ t → x ≡ y → b ≡ c → n ≡ o → told ≤ m + o → m ≤ y + c → base + x + b + n ≤ e
+          → base + s + told ≤ e + t
+      sums told m s t x y b c n o one two three four below less le = omega (arith, one, two, three, four, below, less, le)
+
+  last : p.since < 2 ^ 127 → last_end p h.stream at.span at.bound - p.since < 2 ^ 126
       → a.earliest + a.bound.greatest + need_at net port (net.streams a.stream).longest
       ≤ last_end p h.stream at.span at.bound - p.since + (net.ports port).since
-  last near =
+  last far near =
       let whole = last_sum (at.span).earliest (greatest_of h.stream at.span at.bound) (occupancy_of p.settings.port.rate (h.stream).len) p.since far
       near in
       let wait : greatest_of h.stream at.span at.bound ≡ longest_wait h.stream at.span at.bound
@@ -86,8 +103,25 @@ end_law net ports clocks known runs nominal port class place k i n f a h p far s
     record {
       no_sooner = λ x e le.
           ends.no_sooner x (first_end p h.stream at.span at.bound - p.since) e
-          (first net ports clocks known port class place a h p far same at le);
+          (first net ports clocks known port class place a h p same at le);
       no_later = λ x e near.
           ends.no_later x (last_end p h.stream at.span at.bound - p.since) e
-          (last net ports clocks known port class place a h p far same at near);
+          (last net ports clocks known port class place a h p same at far near);
     }
+
+-- ---- no sooner
+
+pub sooner_law : SoonerLaw
+sooner_law net ports clocks known runs nominal port class place k i n f a h p same run kept at numbered x e =
+    let setup = net.ports port in
+    let own = own_starts_law setup.ps setup.mtu setup.room class (runs port).command setup.plan (runs port).events run.run k x e in
+    let there : slice_get (queued_at net port class (runs port)) k ≡ Some f = ap (λ xs. slice_get xs k) kept.all ∙ numbered.came in
+    let frame : own.0 ≡ f = same_Some own.0 f (sym own.1 ∙ there) in
+    let end : x.«end» ≡ x.at + need_at net port f.frame.len
+    = ap (λ (y : Start). y.«end») own.2 ∙ ap (λ (g : Came). x.at + need_at net port g.frame.len) frame in
+    let start = (kept.starts k i n f a numbered).no_sooner x e in
+    let need : need_at net port (net.streams a.stream).shortest ≤ need_at net port f.frame.len
+    = lesser_need setup.ps (net.streams a.stream).shortest f.frame.len (kept.long k i n f a numbered).0 in
+    let whole = whole_first net ports clocks known port class place a h p same at ((runs port).command.change + nominal a.stream n) x.«end»
+    (omega (arith, end, start, need)) in
+    omega (arith, whole)

@@ -47,7 +47,7 @@ class_is (Ok d) class e = ap (λ (n : ℕ). Ok n) (same_Some d class e)
 class_is (Err why) class e = absurd (none-some class e)
 
 -- what holds of each hop of a class
-own_all : (p class : ℕ) (P : Hop → Type 0) (hops : List Hop) → ((k : ℕ) (h : Hop) → slice_get hops k ≡ Some h → is_own p class h ≡ true → P h)
+pub own_all : (p class : ℕ) (P : Hop → Type 0) (hops : List Hop) → ((k : ℕ) (h : Hop) → slice_get hops k ≡ Some h → is_own p class h ≡ true → P h)
     → (i : ℕ) (h : Hop) → slice_get (own_hops p class hops) i ≡ Some h → P h
 own_all p class P [] all i h e = absurd (none_here i h e)
 own_all p class P (x ∷ hops) all i h e =
@@ -89,7 +89,7 @@ module _ (net : Network) (ports : List PathPort) (p class : ℕ) (q : PathPort) 
         bound = as_hop.waits;
       })
 
-  abbrev IsGood : Hop → Type 0
+  abbrev pub IsGood : Hop → Type 0
   IsGood h = (is_own p class h ≡ true) × ((s : Span) → h.coming ≡ Comings.Within s → IsSound ports h s)
 
   -- bounds that are given, from the next place on
@@ -98,7 +98,7 @@ module _ (net : Network) (ports : List PathPort) (p class : ℕ) (q : PathPort) 
   shift b left place n (h ∷ hops) e given =
       (given.0 ∙ ap (λ (m : ℕ). slice_get (b ∷ left) m) e, shift b left (place + 1) (n + 1) hops (omega (arith, e)) given.1)
 
-  hops_told : (those : List NetworkHop) (hops : List Hop) (left : List Bound)
+  pub hops_told : (those : List NetworkHop) (hops : List Hop) (left : List Bound)
       → ((i : ℕ) (h : Hop) → slice_get hops i ≡ Some h → IsGood h) → AreHopsAs net those hops → AreGiven left 0 hops
       → length left ≡ length hops → AreHopsTold net q class those hops left
   hops_told [] [] [] good are given long = tt
@@ -113,12 +113,12 @@ module _ (net : Network) (ports : List PathPort) (p class : ℕ) (q : PathPort) 
 
 -- ---- how many bounds an answer has
 
-length_map : {A B : Type 0} (f : A → B) (xs : List A) → length (map f xs) ≡ length xs
+pub length_map : {A B : Type 0} (f : A → B) (xs : List A) → length (map f xs) ≡ length xs
 length_map f [] = refl
 length_map f (x ∷ xs) = ap suc (length_map f xs)
 
 module _ (s : BoundsSettings) (c : Change) (streams : List Stream) (class : ℕ) (answer : ClassAnswer) where
-  abbrev IsCounted : Type 0
+  abbrev pub IsCounted : Type 0
   IsCounted = (answer.left ≡ []) ⊎ (length answer.left ≡ length streams)
 
   room_counted : (t : Bool) (most : ℕ) (reached : Bool) (bounds : List Bound) → length bounds ≡ length streams
@@ -149,7 +149,7 @@ module _ (s : BoundsSettings) (c : Change) (streams : List Stream) (class : ℕ)
   windows_counted (Err WindowFaults.Late) why is = burst_counted is.told is.answered
   windows_counted (Err WindowFaults.Memory) why is = absurd why
 
-  counted : (any : Bool) → IsApartAnswer any true s c streams class answer → IsCounted
+  pub counted : (any : Bool) → IsApartAnswer any true s c streams class answer → IsCounted
   counted true is = burst_counted is.told is.answered
   counted false is = windows_counted is.told is.are is.answered
 
@@ -158,8 +158,9 @@ module _ (s : BoundsSettings) (c : Change) (streams : List Stream) (class : ℕ)
 module _ (net : Network) (ports : List PathPort) (known : Known)
     (sound : (k : ℕ) (h : Hop) (s : Span) → slice_get known.hops k ≡ Some h → h.coming ≡ Comings.Within s → IsSound ports h s)
     (told_ports : (p : ℕ) (q : PathPort) → slice_get ports p ≡ Some q → net.ports p ≡ port_told q)
-    (shared : (p class : ℕ) → net.judged p class ≡ true → keeps_apart (net.ports p).plan.entries class ≡ false → IsByPriority net p class)
-    (pair : ℕ) (a : IsAnswered ports known pair) (judged : net.judged (port_in pair) (class_in pair) ≡ true)
+    (shared : (p class : ℕ) → net.judged p class ≡ true → keeps_apart (net.ports p).plan.entries class ≡ false → (net.hops p class ≡ [] → ⊥)
+    → IsByPriority net p class)
+    (place pair : ℕ) (a : IsAnswered ports known place pair) (judged : net.judged (port_in pair) (class_in pair) ≡ true)
     (are : AreHopsAs net (net.hops (port_in pair) (class_in pair)) (own_hops (port_in pair) (class_in pair) known.hops)) where
   abbrev p : ℕ
   p = port_in pair
@@ -213,13 +214,18 @@ module _ (net : Network) (ports : List PathPort) (known : Known)
       → (table : List Stream) (above : List Standing)
       → IsAnswerBy apart a.port table above (map entry_of (own_hops p class known.hops)) class a.answer → IsJudged net p class
   known_by true kept table above is = apart_by (own_hops p class known.hops) refl kept table above is
-  known_by false kept table above is =
-      inr (inr (inr (shared p class judged (ap (λ (y : Plan). keeps_apart y.entries class) plan_is ∙ kept))))
+  known_by false kept table above is = by (net.hops p class) refl
+    where
+      by : (those : List NetworkHop) → net.hops p class ≡ those → IsJudged net p class
+      by [] none = inl none
+      by (a ∷ those) some =
+          inr (inr (inr (shared p class judged (ap (λ (y : Plan). keeps_apart y.entries class) plan_is ∙ kept) (λ none. none-some a
+          (sym (ap (λ (hs : List NetworkHop). slice_get hs 0) none) ∙ ap (λ (hs : List NetworkHop). slice_get hs 0) some)))))
 
   class_judged : IsJudged net p class
   class_judged = by a.so
     where
-      by : ((a.answer ≡ unbounded Verdicts.Idle) × (a.verdict ≡ PairVerdicts.Unheard)) ⊎ IsKnownSo ports known pair a.port a.answer a.verdict
+      by : ((a.answer ≡ unbounded Verdicts.Idle) × (a.verdict ≡ PairVerdicts.Unheard)) ⊎ IsKnownSo ports known place pair a.port a.answer a.verdict
           → IsJudged net p class
       by (inl none) = inl (empty_by (a.answer).left (ap (λ (y : ClassAnswer). y.left) none.0) a.given)
       by (inr so) =
@@ -227,12 +233,17 @@ module _ (net : Network) (ports : List PathPort) (known : Known)
 
 pub path_claim : NetworkClaim → PathClaim
 path_claim claim net ports clocks ways known sent judged small is are shared =
-    claim net (told_law net ports clocks ways known judged small is) (λ (p class : ℕ) own.
-    let mine = is.judged p class own in
-    let answered = answered_law ports clocks (start_hops ports false ways) known judged mine.0 mine.1 mine.2 in
-    let own_there : net.judged (port_in mine.1) (class_in mine.1) ≡ true
-    = subst (λ (n : ℕ). net.judged n (class_in mine.1) ≡ true) mine.3 (subst (λ (n : ℕ). net.judged p n ≡ true) mine.4 own) in
-    subst (λ (n : ℕ). IsJudged net n class) (sym mine.3)
-    (subst (λ (n : ℕ). IsJudged net (port_in mine.1) n) (sym mine.4)
-    (class_judged net ports known (sound_law ports clocks ways known sent judged) is.ports_told shared mine.1 answered own_there
-    (are (port_in mine.1) (class_in mine.1) own_there))))
+    claim net (told_law net ports clocks ways known judged small is) (λ (q c : ℕ) own. by q c own (is.judged q c own))
+  where
+    by : (q c : ℕ) → net.judged q c ≡ true
+        → ((j pair : ℕ) × (slice_get known.order j ≡ Some pair) × (q ≡ port_in pair) × (c ≡ class_in pair)) ⊎ (net.hops q c ≡ [])
+        → IsJudged net q c
+    by q c own (inr none) = inl none
+    by q c own (inl mine) =
+        let answered = answered_law ports clocks (start_hops ports false ways) known judged mine.0 mine.1 mine.2 in
+        let own_there : net.judged (port_in mine.1) (class_in mine.1) ≡ true
+        = subst (λ (n : ℕ). net.judged n (class_in mine.1) ≡ true) mine.3 (subst (λ (n : ℕ). net.judged q n ≡ true) mine.4 own) in
+        subst (λ (n : ℕ). IsJudged net n c) (sym mine.3)
+        (subst (λ (n : ℕ). IsJudged net (port_in mine.1) n) (sym mine.4)
+        (class_judged net ports known (sound_law ports clocks ways known sent judged) is.ports_told shared mine.0 mine.1 answered own_there
+        (are (port_in mine.1) (class_in mine.1) own_there)))

@@ -7,7 +7,7 @@ use Rattle.delay_bounds.specs.declared.Bound.{Bound}
 use Rattle.abstract_port.specs.declared.Dropped.{Dropped}
 use Rattle.stream_bounds.specs.Classes.{dropped_of}
 use Rattle.path_bounds.specs.Hops.{arrived, coming_at, coming_of, first_span, is_awaited, is_counted, is_own, leaving_of, moved, passed_by, passed_on, span_behind}
-use Rattle.path_bounds.specs.Judged.{AreSteps, Known, class_in, port_in, unjudged}
+use Rattle.path_bounds.specs.Judged.{AreJudged, AreSteps, Known, class_in, port_in, unjudged}
 use Rattle.path_bounds.specs.Start.{class_at, hop_of, never_behind, start_hops, with_port}
 use Rattle.path_bounds.specs.declared.hop.Coming.{Coming}
 use Rattle.path_bounds.specs.declared.hop.Coming.TheVariants as Comings
@@ -22,7 +22,7 @@ use Rattle.path_claim.proofs.LinkedLaws.{awaited_only, never_only}
 use Rattle.path_claim.proofs.WindowLaws.{told_of, unknown_only, within_by}
 
 -- frames come, or may come yet
-abbrev may_come : Coming → Bool
+abbrev pub may_come : Coming → Bool
 may_come (Comings.Within s) = true
 may_come Comings.Awaited = true
 may_come Comings.Unknown = false
@@ -40,13 +40,13 @@ none_of (Some why) is = absurd (true≢false is)
 
 module _ (ports : List PathPort) (clocks : ℕ) where
   -- what is known of a hop is sound
-  record IsWell (h : Hop) : Type 0 where
-    sent : IsSent h.stream
-    port : PathPort
-    is : slice_get ports h.port ≡ Some port
-    to : h.class ≡ class_at port h.stream
-    none : may_come h.coming ≡ true → dropped_of port.settings port.change h.stream ≡ None
-    counted : (s : Span) → h.coming ≡ Comings.Within s → is_counted (moved h.stream s) ≡ true
+  pub record IsWell (h : Hop) : Type 0 where
+    pub sent : IsSent h.stream
+    pub port : PathPort
+    pub is : slice_get ports h.port ≡ Some port
+    pub to : h.class ≡ class_at port h.stream
+    pub none : may_come h.coming ≡ true → dropped_of port.settings port.change h.stream ≡ None
+    pub counted : (s : Span) → h.coming ≡ Comings.Within s → is_counted (moved h.stream s) ≡ true
 
   abbrev AreWell : List Hop → Type 0
   AreWell [] = Unit {0}
@@ -164,11 +164,17 @@ module _ (ports : List PathPort) (clocks : ℕ) where
       (well_on step.port (port_in pair) (class_in pair) (step.answer).left old.hops 0 Leavings.Other are) in
       steps_well pairs steps.0 new next steps.2
 
+-- so it is with all in the end
+pub well_law : (ports : List PathPort) (clocks : ℕ) (ways : List WayHop) (known : Known) → AreSent ways
+    → AreJudged ports clocks (unjudged ports (start_hops ports false ways)) known
+    → (k : ℕ) (h : Hop) → slice_get known.hops k ≡ Some h → IsWell ports clocks h
+well_law ports clocks ways known sent judged k h e =
+    well_at ports clocks known.hops k h
+    (steps_well ports clocks known.order (unjudged ports (start_hops ports false ways)) known (begin_well ports clocks ways false sent) judged.steps) e
+
 pub sound_law : SoundLaw
 sound_law ports clocks ways known sent judged k h s e coming =
-    let all = steps_well ports clocks known.order (unjudged ports (start_hops ports false ways)) known
-    (begin_well ports clocks ways false sent) judged.steps in
-    let well = well_at ports clocks known.hops k h all e in
+    let well = well_law ports clocks ways known sent judged k h e in
     record {
       sent = well.sent;
       port = well.port;

@@ -1,5 +1,5 @@
 -- A network of which all is told is told.
-use Rattle.std.proofs.Common.{◌≡◌, ◌<◌, ◌≤◌, ℕ, zero, suc, ◌+◌, ◌*◌, Bool, true, false, List, [], ◌∷◌, Option, Some, None, slice_get, sym, ap, ◌∙◌, subst, arith}
+use Rattle.std.proofs.Common.{◌≡◌, ◌<◌, ◌≤◌, ◌⊎◌, inl, inr, ℕ, zero, suc, ◌+◌, ◌*◌, Bool, true, false, List, [], ◌∷◌, Option, Some, None, slice_get, sym, ap, ◌∙◌, subst, arith}
 use Rattle.std.proofs.lemmas.Option.{same_Some}
 use Rattle.any_traffic.proofs.ListLaws.{none_here}
 use Rattle.delay_bounds.specs.declared.Bound.{Bound}
@@ -24,7 +24,7 @@ use Rattle.path_claim.proofs.LinkedLaws.{linked_law}
 use Rattle.path_claim.proofs.WindowLaws.{begins_law, ends_law, span_in}
 
 -- a hop in a list, behind the one before
-linked_at : (ports : List PathPort) (clocks k : ℕ) (before : Option Hop) (hops : List Hop) (g h : Hop) → AreLinked ports clocks before hops
+pub linked_at : (ports : List PathPort) (clocks k : ℕ) (before : Option Hop) (hops : List Hop) (g h : Hop) → AreLinked ports clocks before hops
     → slice_get hops k ≡ Some g → slice_get hops (suc k) ≡ Some h → IsLinked ports clocks (Some g) h
 linked_at ports clocks k before [] g h are one two = absurd (none_here k g one)
 linked_at ports clocks zero before (x ∷ []) g h are one two = absurd (none_here zero h two)
@@ -32,6 +32,12 @@ linked_at ports clocks zero before (x ∷ (y ∷ hops)) g h are one two =
     subst (λ (z : Hop). IsLinked ports clocks (Some z) h) (same_Some x g one)
     (subst (λ (z : Hop). IsLinked ports clocks (Some x) z) (same_Some y h two) are.1.0)
 linked_at ports clocks (suc k) before (x ∷ hops) g h are one two = linked_at ports clocks k (Some x) hops g h are.1 one two
+
+-- and the first of all
+pub linked_first : (ports : List PathPort) (clocks : ℕ) (hops : List Hop) (h : Hop) → AreLinked ports clocks None hops → slice_get hops 0 ≡ Some h
+    → IsLinked ports clocks None h
+linked_first ports clocks [] h are e = absurd (none_here 0 h e)
+linked_first ports clocks (x ∷ hops) h are e = subst (λ (y : Hop). IsLinked ports clocks None y) (same_Some x h e) are.0
 
 -- and any, behind some
 linked_any : (ports : List PathPort) (clocks k : ℕ) (before : Option Hop) (hops : List Hop) (h : Hop) → AreLinked ports clocks before hops
@@ -50,7 +56,7 @@ later_at order j pair zero before (x ∷ (y ∷ hops)) g h are one two =
     (subst (λ (z : Hop). IsLater order j pair (Some x) z) (same_Some y h two) are.1.0)
 later_at order j pair (suc k) before (x ∷ hops) g h are one two = later_at order j pair k (Some x) hops g h are.1 one two
 
-same_span : (s t : Span) (c : Coming) → c ≡ Comings.Within s → c ≡ Comings.Within t → s ≡ t
+pub same_span : (s t : Span) (c : Coming) → c ≡ Comings.Within s → c ≡ Comings.Within t → s ≡ t
 same_span s t c one two = ap (span_in s) (sym one ∙ two)
 
 module _ (net : Network) (ports : List PathPort) (clocks : ℕ) (known : Known) (small : AreSmall ports clocks known)
@@ -150,10 +156,9 @@ module _ (net : Network) (ports : List PathPort) (clocks : ℕ) (known : Known) 
             omega (arith, one, two, three, four, five, six, seven, eight, nine, le)
 
     -- its class is judged sooner
-    sooner : net.judged p class ≡ true
+    sooner_by : (mine : (j pair : ℕ) × (slice_get known.order j ≡ Some pair) × (p ≡ port_in pair) × (class ≡ class_in pair))
         → (net.judged l.port l.class ≡ true) × (net.order l.port l.class < net.order p class)
-    sooner judged =
-        let mine = is.judged p class judged in
+    sooner_by mine =
         let own : is_own (port_in mine.1) (class_in mine.1) h ≡ true
         = subst (λ (n : ℕ). is_own n (class_in mine.1) h ≡ true) mine.3 (subst (λ (n : ℕ). is_own p n h ≡ true) mine.4 at.own) in
         let r = later_at known.order mine.0 mine.1 k None known.hops g h (later mine.0 mine.1 mine.2) from_at.is at.is own at.span at.coming
@@ -177,15 +182,24 @@ module _ (net : Network) (ports : List PathPort) (clocks : ℕ) (known : Known) 
           omega (arith, order_there, order_here, less),
         )
 
-  over_link : (p class k : ℕ) (a : NetworkHop) (h : Hop) (l : Link) → net.judged p class ≡ true
+    sooner : (i : ℕ) → slice_get (net.hops p class) i ≡ Some a → net.judged p class ≡ true
+        → (net.judged l.port l.class ≡ true) × (net.order l.port l.class < net.order p class)
+    sooner i e judged = by (is.judged p class judged)
+      where
+        by : ((j pair : ℕ) × (slice_get known.order j ≡ Some pair) × (p ≡ port_in pair) × (class ≡ class_in pair)) ⊎ (net.hops p class ≡ [])
+            → (net.judged l.port l.class ≡ true) × (net.order l.port l.class < net.order p class)
+        by (inl mine) = sooner_by mine
+        by (inr none) = absurd (none_here i a (sym (ap (λ (those : List NetworkHop). slice_get those i) none) ∙ e))
+
+  over_link : (p class i k : ℕ) (a : NetworkHop) (h : Hop) (l : Link) → net.judged p class ≡ true → slice_get (net.hops p class) i ≡ Some a
       → IsHopAt net ports clocks known p class a k h → IsPassedBy net ports clocks known (Some l) k a h
       → (net.judged l.port l.class ≡ true) × (net.order l.port l.class < net.order p class)
       × (b : NetworkHop) × (slice_get (net.hops l.port l.class) l.place ≡ Some b) × FollowsFrom net p a l b
-  over_link p class zero a h l judged at passed = absurd passed
-  over_link p class (suc k) a h l judged at passed =
+  over_link p class i zero a h l judged e at passed = absurd passed
+  over_link p class i (suc k) a h l judged e at passed =
       let b = passed.3 in
       let g = passed.4 in
-      let sooner_is = sooner p class k a b l g h at passed.6 passed.0 passed.1 passed.2 passed.7 judged in (
+      let sooner_is = sooner p class k a b l g h at passed.6 passed.0 passed.1 passed.2 passed.7 i e judged in (
         sooner_is.0,
         sooner_is.1,
         b,
@@ -202,7 +216,7 @@ module _ (net : Network) (ports : List PathPort) (clocks : ℕ) (known : Known) 
     links = λ p class i a l judged e some.
         let hop = is.hops p class i a judged e in
         let passed = subst (λ (o : Option Link). IsPassedBy net ports clocks known o hop.0 a hop.1) some hop.3 in
-        over_link p class hop.0 a hop.1 l judged hop.2 passed;
+        over_link p class i hop.0 a hop.1 l judged e hop.2 passed;
   }
 
 pub told_law : ToldLaw

@@ -127,11 +127,11 @@ module _ (from to : PathPort) (clocks : ℕ) (h : Hop) (s : Span) (b : Bound) (b
   is_told : (span_behind from to clocks h.stream s b h.least h.greatest ≡ Some behind) × (is_counted (moved h.stream behind) ≡ true)
   is_told = told_of h.stream (span_behind from to clocks h.stream s b h.least h.greatest) behind told
 
-  is_span : (nat_le (plus (ahead_of from) clocks) first ≡ true) × (span ≡ behind)
+  pub is_span : (nat_le (plus (ahead_of from) clocks) first ≡ true) × (span ≡ behind)
   is_span = some_by (nat_le (plus (ahead_of from) clocks) first) span behind is_told.0
 
   -- what is taken off is whole
-  ahead_whole : (plus (ahead_of from) clocks ≡ gap_of from.settings.port.rate + from.since + clocks)
+  pub ahead_whole : (plus (ahead_of from) clocks ≡ gap_of from.settings.port.rate + from.since + clocks)
       × (ahead_of from ≡ gap_of from.settings.port.rate + from.since)
   ahead_whole = sums (gap_of from.settings.port.rate) from.since far
     where

@@ -1,10 +1,13 @@
 pub mod Answered
 pub mod Apart
+pub mod Built
 pub mod Earlier
 pub mod Ends
+pub mod Found
 pub mod Linked
 pub mod Networks
 pub mod PathClaim
+pub mod Read
 pub mod Sent
 pub mod Told
 pub mod Windows

@@ -2,7 +2,7 @@
 --
 -- Where it is, what is told of it holds (network_claim, IsTold): windows follow from one another, and a class is judged after those from which
 -- its frames come. Times are in picoseconds.
-use Rattle.std.specs.Prelude.{◌≡◌, ℕ, zero, suc, true, false, Option, Some, None, List, slice_get}
+use Rattle.std.specs.Prelude.{◌≡◌, ◌⊎◌, ℕ, zero, suc, true, false, Option, Some, None, List, [], slice_get}
 use Rattle.delay_bounds.specs.declared.Bound.{Bound}
 use Rattle.path_bounds.specs.Hops.{is_own}
 use Rattle.path_bounds.specs.Judged.{AreJudged, Known, class_in, port_in, unjudged}
@@ -39,13 +39,13 @@ module _ (net : Network) (ports : List PathPort) (clocks : ℕ) (known : Known) 
       (h.first ≡ false) × (l.least ≡ h.least) × (l.greatest ≡ h.greatest) × (b : NetworkHop) × (g : Hop)
       × (slice_get (net.hops l.port l.class) l.place ≡ Some b) × IsHopAt l.port l.class b k g × (b.stream ≡ a.stream)
 
-  -- The ports are those that are told of. The classes that are judged here are those that were judged and have bounds, in their order, and so
-  -- are all of their hops.
+  -- The ports are those that are told of. The classes that are judged here are those that were judged and have bounds, in their order, with all
+  -- of their hops; and some to which nothing comes.
   pub record IsNetworkOf : Type 0 where
     pub clocks_same : net.clocks ≡ clocks
     pub ports_told : (p : ℕ) (q : PathPort) → slice_get ports p ≡ Some q → net.ports p ≡ port_told q
     pub judged : (p class : ℕ) → net.judged p class ≡ true
-        → (j pair : ℕ) × (slice_get known.order j ≡ Some pair) × (p ≡ port_in pair) × (class ≡ class_in pair)
+        → ((j pair : ℕ) × (slice_get known.order j ≡ Some pair) × (p ≡ port_in pair) × (class ≡ class_in pair)) ⊎ (net.hops p class ≡ [])
     pub bounded : (j pair k : ℕ) (h : Hop) (b : Bound) → slice_get known.order j ≡ Some pair → slice_get known.hops k ≡ Some h
         → is_own (port_in pair) (class_in pair) h ≡ true → h.bound ≡ Some b → net.judged (port_in pair) (class_in pair) ≡ true
     pub order : (j pair : ℕ) → slice_get known.order j ≡ Some pair → net.order (port_in pair) (class_in pair) ≡ j

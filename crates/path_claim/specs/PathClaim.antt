@@ -44,6 +44,7 @@ PathClaim =
     → AreJudged ports clocks (unjudged ports (start_hops ports false ways)) known → AreSmall ports clocks known
     → IsNetworkOf net ports clocks known
     → ((p class : ℕ) → net.judged p class ≡ true → AreHopsAs net (net.hops p class) (own_hops p class known.hops))
-    → ((p class : ℕ) → net.judged p class ≡ true → keeps_apart (net.ports p).plan.entries class ≡ false → IsByPriority net p class)
+    → ((p class : ℕ) → net.judged p class ≡ true → keeps_apart (net.ports p).plan.entries class ≡ false → (net.hops p class ≡ [] → ⊥)
+    → IsByPriority net p class)
     → (runs : ℕ → PortRun) (nominal : (stream n : ℕ) → ℕ) → IsNetworkRun net runs nominal
     → (p class : ℕ) → net.judged p class ≡ true → KeepsTime net runs nominal p class
