@@ -19,14 +19,14 @@ use stream_bounds::BoundsSettings;
 /// Answers with these settings.
 fn paths_with(
     alloc: Global,
-    settings: &BoundsSettings,
+    settings: BoundsSettings,
     network: &[u8],
     schedules: &[u8],
     output: &mut [u8],
     fault: &mut [u8],
 ) -> Ran
     ensures { (read : List (List ℕ) → Result Command TcFault) → IsReader read →
-        AnswersPaths read (Ok settings.now) network.now schedules.now
+        AnswersPaths read (Ok settings) network.now schedules.now
         result (slices output.old fault.old) (slices output.new fault.new) }
 {
     let mut written = Vec::new(alloc);
@@ -35,7 +35,7 @@ fn paths_with(
         network,
         schedules,
         &mut written,
-        settings,
+        &settings,
         None,
         &mut Unwatched,
     );
@@ -66,7 +66,7 @@ pub fn paths_octets(
         result (slices output.old fault.old) (slices output.new fault.new) }
 {
     match bounds_settings_at(values, frames, asked) {
-        Ok(settings) => paths_with(alloc, &settings, network, schedules, output, fault),
+        Ok(settings) => paths_with(alloc, settings, network, schedules, output, fault),
         Err(value) => refuse_bounds(alloc, value, output, fault),
     }
 }
