@@ -1,6 +1,6 @@
 -- What holds of each frame of a stream holds of each frame of a table.
 use Rattle.std.proofs.Common.{◌≡◌, ℕ, zero, suc, ◌+◌, ◌<◌, ◌≤◌, Bool, true, false, cond, leb, List, [], ◌∷◌, ◌++◌, arith}
-use Rattle.core.specs.List.{AllByRecursion}
+use Rattle.std.specs.List.{AllByRecursion}
 use Rattle.std.specs.List.{flat_map}
 use Rattle.traffic.specs.Frames.{by_moment, frame_after, frames_after, frames_in_turn, frames_of, insert}
 use Rattle.traffic.specs.declared.course.Coming.{Coming}

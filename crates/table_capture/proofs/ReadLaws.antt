@@ -11,7 +11,7 @@ use Rattle.capture.specs.Records.{Entry, IsWithin}
 use Rattle.capture.specs.declared.format.Resolution.TheVariants.{Nanos}
 use Rattle.capture.specs.declared.format.TheConstants.{MAX_RECORDS, MAX_RECORD_OCTETS}
 use Rattle.capture.specs.declared.reader.End.TheVariants.{Whole}
-use Rattle.core.specs.List.{AllByRecursion}
+use Rattle.std.specs.List.{AllByRecursion}
 use Rattle.traffic.specs.declared.course.Coming.{Coming}
 use Rattle.table_capture.specs.Carried.{AreCarried, IsCarried}
 use Rattle.table_capture.specs.Law.{read_record, told_frame}

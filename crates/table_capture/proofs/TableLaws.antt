@@ -2,7 +2,7 @@
 use Rattle.std.proofs.Common.{◌≡◌, ℕ, zero, suc, ◌+◌, ◌-◌, ◌^◌, ◌<◌, ◌≤◌, Bool, true, false, cond, List, [], ◌∷◌, ◌++◌, length, map, Option, Some, None, Result, Ok, Err, refl, sym, ap, ◌∙◌, subst, arith, append_assoc, append-nil}
 use Rattle.std.specs.Prelude.{codes}
 use Rattle.std.specs.Str.{bytes_eq}
-use Rattle.core.specs.List.{AllByRecursion}
+use Rattle.std.specs.List.{AllByRecursion}
 use Rattle.text.specs.Script.{Script, End, Broken, Line, script_of}
 use Rattle.text.specs.Words.{words_of}
 use Rattle.capture.specs.CaptureWriter.{written_format}

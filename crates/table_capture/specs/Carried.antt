@@ -1,6 +1,6 @@
 -- Which streams of a table a capture can have, so that who reads it finds each frame as the table has it.
 use Rattle.std.specs.Prelude.{◌≡◌, ◌≤◌, ◌<◌, ◌+◌, ◌-◌, ◌*◌, ◌&&◌, ◌||◌, ◌^◌, not, nat_le, nat_lt, ℕ, Bool, true, List, Result, Ok, Err, if◌then◌else◌}
-use Rattle.core.specs.List.{AllByRecursion}
+use Rattle.std.specs.List.{AllByRecursion}
 use Rattle.capture.specs.declared.writer.TheConstants.{CAPTURE_END}
 use Rattle.script.specs.declared.faults.ScriptFault.{ScriptFault}
 use Rattle.script.specs.declared.faults.ScriptFault.TheVariants.{BadNumber, ClockTooLate}
