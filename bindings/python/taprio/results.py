@@ -542,6 +542,14 @@ class Paths:
     cyclic: tuple[tuple[str, int], ...] = ()
     """The classes that depend on themselves, in a circle, or on such a class, each with the name of its port."""
 
+    @property
+    def met(self) -> bool:
+        """Whether there is a path, each has its ends, no class may have more frames than room, and each deadline is known to be met. False
+        where there is no path. A network of which no port has a schedule is judged by open gates: `paths --strict` finds that, this can't."""
+        fits = all(it.most is None or it.room is None or it.most <= it.room for port in self.ports for it in port.classes)
+        ends = all(it.verdict == "within" and (it.deadline is None or it.met is True) for it in self.paths)
+        return bool(self.paths) and fits and ends
+
     def rows(self) -> list[dict[str, Any]]:
         """A dict of each way: `pandas.DataFrame(paths.rows())`."""
         return rows(self.paths)

@@ -658,6 +658,22 @@ class Paths(unittest.TestCase):
     def told(self, *lines):
         return taprio.read_paths("".join(f"{line}\n" for line in lines))
 
+    def test_met(self):
+        """Only where there is a path, each has its ends and its deadline, and no class may have more frames than room."""
+        fits, path = "class 7 within most 1 of 1", "path 1 end 5 to 60"
+        for lines, met in (
+            ((), False),
+            ((fits, path), True),
+            ((fits, f"{path} deadline 60 met"), True),
+            ((fits, f"{path} deadline 59 unknown"), False),
+            ((fits, f"{path} deadline 4 missed"), False),
+            ((fits, f"{path} deadline 60 met", "path 2 unknown"), False),
+            ((fits, f"{path} deadline 60 met", "path 2 none"), False),
+            (("class 7 within most 2 of 1", f"{path} deadline 60 met"), False),
+        ):
+            with self.subTest(lines):
+                self.assertIs(self.told("apart none", *lines).met, met)
+
     def test_kinds(self):
         """Each line, of ports with names; the verdicts about classes are those of bounds, and two more."""
         found = self.told(
