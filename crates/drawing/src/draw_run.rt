@@ -202,7 +202,8 @@ fn take_asked<A: Allocator>(
 )
     ensures course { course.new ≡ seen_at event.now port.old.port course.old }
     ensures port { port.new.port ≡ settled (answers_to event.now port.old.port).1 }
-    ensures bands { BandsOn settings options event.now port.old.port course.old bands.old bands.new }
+    ensures bands { BandsOn settings options event.now port.old.port course.old bands.old
+        bands.new }
     ensures sound { IsSoundPort port.new.port }
     ensures few { HasFewVisits port.old.port port.old port.new }
 {

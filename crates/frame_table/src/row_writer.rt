@@ -145,9 +145,11 @@ impl<A: Allocator + Clone, B: Allocator, W: Write> Observer<W> for RowWriter<'_,
 
     ghost nothing = { λ s w. (refl, none_rowed s.streams.now s.arrivals (W.contents w)) };
 
-    ghost both = { λ xs ys s t u w v x. kept_both xs ys s.streams.now t.streams.now s.arrivals t.arrivals (W.contents w) (W.contents v) (W.contents x) u.streams.now u.arrivals };
+    ghost both = { λ xs ys s t u w v x. kept_both xs ys s.streams.now t.streams.now s.arrivals
+        t.arrivals (W.contents w) (W.contents v) (W.contents x) u.streams.now u.arrivals };
 
-    ghost cut_later = { λ xs ys s t u w v x. kept_later xs ys s.streams.now t.streams.now s.arrivals t.arrivals (W.contents w) (W.contents v) (W.contents x) };
+    ghost cut_later = { λ xs ys s t u w v x. kept_later xs ys s.streams.now t.streams.now s.arrivals
+        t.arrivals (W.contents w) (W.contents v) (W.contents x) };
 
     ghost cut_here = { λ xs ys s t w v a. rowed_here s.streams.now xs ys s.arrivals t.arrivals
         (W.contents w) (W.contents v) a.1 };

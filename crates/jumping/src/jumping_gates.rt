@@ -43,7 +43,10 @@ impl Model for Jumping {
     ghost view = { λ g. clocked g.slots };
 
     ghost invariant = { λ g. AreCommands g.slots.commands
-        × Stands g.slots.commands.in_force g.slots.commands.pending g.slots.commands.moment g.slots.position × Resumes g.slots.commands g.resumed × IsEdge g.slots.commands g.slots.position g.edge × (g.mask ≡ shown_by g.slots.position) };
+        × Stands g.slots.commands.in_force g.slots.commands.pending g.slots.commands.moment
+            g.slots.position × Resumes g.slots.commands g.resumed
+            × IsEdge g.slots.commands g.slots.position g.edge
+            × (g.mask ≡ shown_by g.slots.position) };
 }
 
 /// Whether a moment is before another, if there is one; both are in picoseconds.
@@ -61,7 +64,8 @@ fn is_before(moment: u128, edge: Option<u128>) -> bool
 #[inline(always)]
 fn next_edge(slots: &CommandSlots) -> Option<u128>
     requires sound { AreCommands slots.now.commands }
-    requires stands { Stands slots.now.commands.in_force slots.now.commands.pending slots.now.commands.moment slots.now.position }
+    requires stands { Stands slots.now.commands.in_force slots.now.commands.pending
+        slots.now.commands.moment slots.now.position }
     ensures { IsEdge slots.now.commands slots.now.position result }
 {
     edge_of(slots)
@@ -110,7 +114,8 @@ fn stays_open_from_now(
     for_ps: u128,
 ) -> bool
     requires sound { AreCommands slots.now.commands }
-    requires stands { Stands slots.now.commands.in_force slots.now.commands.pending slots.now.commands.moment slots.now.position }
+    requires stands { Stands slots.now.commands.in_force slots.now.commands.pending
+        slots.now.commands.moment slots.now.position }
     requires resumes { Resumes slots.now.commands resumed.now }
     requires class { class < CLASSES }
     requires within { for_ps ≤ greatest_moment }
@@ -145,9 +150,11 @@ fn move_on(
     requires later { slots.old.commands.moment ≤ t }
     requires within { t ≤ greatest_moment }
     requires sound { AreCommands slots.old.commands }
-    requires stands { Stands slots.old.commands.in_force slots.old.commands.pending slots.old.commands.moment slots.old.position }
+    requires stands { Stands slots.old.commands.in_force slots.old.commands.pending
+        slots.old.commands.moment slots.old.position }
     ensures value { slots.new.commands ≡ settled_at slots.old.commands t }
-    ensures stands { Stands slots.new.commands.in_force slots.new.commands.pending slots.new.commands.moment slots.new.position }
+    ensures stands { Stands slots.new.commands.in_force slots.new.commands.pending
+        slots.new.commands.moment slots.new.position }
     ensures sound { AreCommands slots.new.commands }
     ensures edge { IsEdge slots.new.commands slots.new.position edge.new }
     ensures mask { mask.new ≡ shown_by slots.new.position }
@@ -182,7 +189,8 @@ fn search_legs(
     visits: &mut Visits,
 ) -> Option<u128>
     requires sound { AreCommands slots.now.commands }
-    requires stands { Stands slots.now.commands.in_force slots.now.commands.pending slots.now.commands.moment slots.now.position }
+    requires stands { Stands slots.now.commands.in_force slots.now.commands.pending
+        slots.now.commands.moment slots.now.position }
     requires resumes { Resumes slots.now.commands resumed.now }
     requires within { before ≤ 2 * greatest_moment }
     ensures searched { Searched

@@ -48,7 +48,8 @@ fn opens_some(mask: u8, needs: &Heads) -> bool
 /// stands so.
 fn fits_alone(leg: &ListedLeg<'_>, from: u128, position: &Position, needs: &Heads) -> bool
     requires sound { IsSchedule leg.now.schedule.now }
-    requires stands { IsPlaced leg.now.schedule.now leg.now.start leg.now.held_from from position.now }
+    requires stands { IsPlaced leg.now.schedule.now leg.now.start leg.now.held_from from
+        position.now }
     requires near { from ≤ 2 * greatest_moment }
     ensures some { result ≡ true →
         Fits (mask_since

@@ -142,7 +142,8 @@ fn run<A: Allocator + Clone, B: Allocator, C: Allocator, R: Read, W: PutLine, V:
         (got (V.contents report.new) (W.contents departures.new))
         (record {
           output = told_to_end origin
-              (merged (timed_from 0 (kept_requests read script.now.octets.items script.now.lines.items))
+              (merged (timed_from 0 (kept_requests read script.now.octets.items
+                  script.now.lines.items))
               (came_from 0 0 origin.entries)) until sending.old.port.port sending.old.summary;
           fault = end_fault (length origin.entries) last;
         }) }

@@ -162,7 +162,8 @@ fn put_open<W: Write>(
     requires { class < CLASSES }
     ensures { Writes result (W.contents writer.old) (W.contents writer.new)
         (window_line class window.now
-        ++ waits_text settings.now.rate schedule.now class settings.now.frame window.now.longest_frame) }
+        ++ waits_text settings.now.rate schedule.now class settings.now.frame
+            window.now.longest_frame) }
 {
     put_window(writer, class, window)?;
     put_waits(
@@ -187,7 +188,8 @@ fn put_told<W: Write>(
     requires { class < CLASSES }
     ensures { Writes result (W.contents writer.old) (W.contents writer.new)
         (told_line led class window.now
-        (waits_text settings.now.rate schedule.now class settings.now.frame window.now.longest_frame)) }
+        (waits_text settings.now.rate schedule.now class settings.now.frame
+            window.now.longest_frame)) }
 {
     if window.share == 0 {
         put_never(writer, led, class)

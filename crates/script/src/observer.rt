@@ -63,7 +63,8 @@ pub trait Observer<W> {
     /// A clock event goes back, or past the greatest moment, and is refused.
     fn clock_refused(&mut self, now: u128, out: &mut W) -> Result<(), Halt>
         ensures { Tells heard cut
-            (Answered now Otherwise Answers.Backward ∷ []) result self.old out.old self.new out.new };
+            (Answered now Otherwise Answers.Backward ∷ []) result self.old out.old self.new
+                out.new };
 
     /// A report is asked for.
     fn report_asked(&mut self, now: u128, report: &Report, out: &mut W) -> Result<(), Halt>
@@ -89,11 +90,15 @@ pub trait Observer<W> {
 
     ghost nothing: { (s : Self) (w : W) → heard [] s w s w };
 
-    ghost both: { (xs ys : List Told) (s t u : Self) (w v x : W) → heard xs s w t v → heard ys t v u x → heard (xs ++ ys) s w u x };
+    ghost both: { (xs ys : List Told) (s t u : Self) (w v x : W) → heard xs s w t v
+        → heard ys t v u x → heard (xs ++ ys) s w u x };
 
-    ghost cut_later: { (xs ys : List Told) (s t u : Self) (w v x : W) → heard xs s w t v → cut ys t v u x → cut (xs ++ ys) s w u x };
+    ghost cut_later: { (xs ys : List Told) (s t u : Self) (w v x : W) → heard xs s w t v
+        → cut ys t v u x → cut (xs ++ ys) s w u x };
 
-    ghost cut_here: { (xs ys : List Told) (s t : Self) (w v : W) → heard xs s w t v → cut (xs ++ ys) s w t v };
+    ghost cut_here: { (xs ys : List Told) (s t : Self) (w v : W) → heard xs s w t v
+        → cut (xs ++ ys) s w t v };
 
-    ghost cut_sooner: { (xs ys : List Told) (s t : Self) (w v : W) → cut xs s w t v → cut (xs ++ ys) s w t v };
+    ghost cut_sooner: { (xs ys : List Told) (s t : Self) (w v : W) → cut xs s w t v
+        → cut (xs ++ ys) s w t v };
 }

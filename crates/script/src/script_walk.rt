@@ -34,7 +34,8 @@ fn take_frame<A: Allocator, W, O: Observer<W>, H: Watch>(
     watch: &mut H,
 ) -> Result<(), Halt>
     ensures taken { IsTaken O.heard O.cut
-        (Asks (Events.Arrive frame.now)) result port.old port.new observer.old out.old observer.new out.new }
+        (Asks (Events.Arrive frame.now)) result port.old port.new observer.old out.old observer.new
+            out.new }
     ensures alerts { H.alerted
         (alerts_of (told_to (Asks (Events.Arrive frame.now)) port.old.port)) watch.old watch.new }
 {
@@ -59,7 +60,8 @@ fn take_starts<A: Allocator, W, O: Observer<W>>(
     requires later { port.old.port.now ≤ until }
     requires within { until ≤ greatest_moment }
     ensures { IsTaken O.heard O.cut
-        (Asks (Events.Clock until)) result port.old port.new observer.old out.old observer.new out.new }
+        (Asks (Events.Clock until)) result port.old port.new observer.old out.old observer.new
+            out.new }
 {
     let now = port.now();
     while let Some(start) = port.step(until) {
@@ -77,7 +79,8 @@ fn take_clock<A: Allocator, W, O: Observer<W>>(
     out: &mut W,
 ) -> Result<(), Halt>
     ensures { IsTaken O.heard O.cut
-        (Asks (Events.Clock until)) result port.old port.new observer.old out.old observer.new out.new }
+        (Asks (Events.Clock until)) result port.old port.new observer.old out.old observer.new
+            out.new }
 {
     let now = port.now();
     if now <= until && until <= MAX_MOMENT {
@@ -126,7 +129,8 @@ fn take_count<A: Allocator, W, O: Observer<W>>(
     out: &mut W,
 ) -> Result<(), Halt>
     ensures { IsTaken O.heard O.cut
-        (Asks (Events.Count class)) result port.now port.now observer.old out.old observer.new out.new }
+        (Asks (Events.Count class)) result port.now port.now observer.old out.old observer.new
+            out.new }
 {
     let now = port.now();
     if class >= CLASSES as u8 {
@@ -155,7 +159,8 @@ fn take_command<A: Allocator, W, O: Observer<W>, H: Watch>(
     watch: &mut H,
 ) -> Result<(), Halt>
     ensures taken { IsTaken O.heard O.cut
-        (Asks (Events.Install command.entry)) result port.old port.new observer.old out.old observer.new out.new }
+        (Asks (Events.Install command.entry)) result port.old port.new observer.old out.old
+            observer.new out.new }
     ensures alerts { H.alerted
         (alerts_of
         (told_to (Asks (Events.Install command.entry)) port.old.port)) watch.old watch.new }
@@ -231,7 +236,8 @@ pub fn take_tc<A: Allocator, W, O: Observer<W>, H: Watch>(
     ensures taken { (read : List (List ℕ) → Result Command TcFault) → IsReader read →
         IsTaken O.heard O.cut
         (tc_request
-        (read (words_of line.now))) result port.old port.new observer.old out.old observer.new out.new }
+        (read (words_of line.now))) result port.old port.new observer.old out.old observer.new
+            out.new }
     ensures alerts { (read : List (List ℕ) → Result Command TcFault) → IsReader read →
         H.alerted
         (alerts_of
@@ -292,7 +298,8 @@ pub fn walk<A: Allocator, B: Allocator, R: Read + Drop, W, O: Observer<W>, H: Wa
     ensures told { (read : List (List ℕ) → Result Command TcFault) → IsReader read →
         IfSome (script_left R.remaining lines.old)
         (λ script. Walked O.heard O.cut
-        (reading_of read script) port.old.port port.new.port result observer.old out.old observer.new out.new) }
+        (reading_of read script) port.old.port port.new.port result observer.old out.old
+            observer.new out.new) }
     ensures alerts { (read : List (List ℕ) → Result Command TcFault) → IsReader read →
         IfSome (script_left R.remaining lines.old)
         (λ script. Watched H.alerted
@@ -360,7 +367,8 @@ pub fn walk_on<A: Allocator, W, O: Observer<W>>(
     until: Option<u128>,
     out: &mut W,
 ) -> Result<(), Halt>
-    ensures { WalkedOn O.heard O.cut until result port.old port.new observer.old out.old observer.new out.new }
+    ensures { WalkedOn O.heard O.cut until result port.old port.new observer.old out.old
+        observer.new out.new }
 {
     // For the prover: a call on a port says what holds of every port.
     let _now = port.now();

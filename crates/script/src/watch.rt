@@ -154,7 +154,8 @@ pub trait Watch {
 
     ghost nothing: { (s : Self) → alerted [] s s };
 
-    ghost both: { (xs ys : List Alert) (s t u : Self) → alerted xs s t → alerted ys t u → alerted (xs ++ ys) s u };
+    ghost both: { (xs ys : List Alert) (s t u : Self) → alerted xs s t → alerted ys t u
+        → alerted (xs ++ ys) s u };
 }
 
 /// Nobody watches.

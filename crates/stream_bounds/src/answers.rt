@@ -46,7 +46,8 @@ fn class_answer(
     requires periodic { All IsPeriodic beside.table.now }
     requires counted { All IsCounted beside.above.now }
     ensures answer { IfOk result
-        (λ j. IsClassAnswer settings.now change.now beside.entry.table.now beside.entry.above.now class j.answer) }
+        (λ j. IsClassAnswer settings.now change.now beside.entry.table.now beside.entry.above.now
+            class j.answer) }
     ensures standing { IfOk result
         (λ j. j.standing
         ≡ standing_of settings.now change.now class

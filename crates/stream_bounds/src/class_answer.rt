@@ -398,7 +398,8 @@ pub fn own_answer(
     requires table { All IsPeriodic beside.table.now }
     requires counted { All IsCounted beside.above.now }
     ensures answer { IfOk result
-        (λ a. IsOwnAnswer settings.now change.now beside.entry.table.now beside.entry.above.now streams.now class a) }
+        (λ a. IsOwnAnswer settings.now change.now beside.entry.table.now beside.entry.above.now
+            streams.now class a) }
     ensures memory { IfErr result (λ fault. fault ≡ Faults.Memory) }
 {
     if streams.len() == 0 {

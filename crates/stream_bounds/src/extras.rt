@@ -64,7 +64,8 @@ fn extra_at(
     requires place { place < length streams.now }
     ensures extra { IfOk result
         (λ extra. (x : Stream) → slice_get streams.now place ≡ Some x →
-        IsExtra settings.now change.now beside.entry.table.now beside.entry.above.now streams.now class own.now place x extra) }
+        IsExtra settings.now change.now beside.entry.table.now beside.entry.above.now streams.now
+            class own.now place x extra) }
     ensures memory { IfErr result (λ fault. fault ≡ Faults.Memory) }
 {
     let slack = asked_slack(
@@ -93,7 +94,8 @@ fn all_extras(
     requires table { All IsPeriodic beside.table.now }
     requires counted { All IsCounted beside.above.now }
     ensures extras { IfOk result
-        (λ extras. AreExtras settings.now change.now beside.entry.table.now beside.entry.above.now streams.now class own.now extras.items) }
+        (λ extras. AreExtras settings.now change.now beside.entry.table.now beside.entry.above.now
+            streams.now class own.now extras.items) }
     ensures memory { IfErr result (λ fault. fault ≡ Faults.Memory) }
 {
     let mut extras = Vec::new(alloc);
@@ -128,7 +130,8 @@ pub fn extras_of(
     ensures extras { IfOk result
         (λ extras. AreAskedExtras
         (settings.now.slack
-        || settings.now.why) settings.now change.now beside.entry.table.now beside.entry.above.now streams.now class own.now extras.items) }
+        || settings.now.why) settings.now change.now beside.entry.table.now beside.entry.above.now
+            streams.now class own.now extras.items) }
     ensures memory { IfErr result (λ fault. fault ≡ Faults.Memory) }
 {
     if settings.slack || settings.why {

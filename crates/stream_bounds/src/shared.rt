@@ -368,7 +368,8 @@ fn bounded_answer(
     requires periodic { All IsPeriodic streams.now }
     requires some { 0 < length streams.now }
     ensures answer { IfOk result
-        (λ a. IsBoundedAnswer settings.now change.now beside.entry.table.now beside.entry.above.now streams.now class a) }
+        (λ a. IsBoundedAnswer settings.now change.now beside.entry.table.now beside.entry.above.now
+            streams.now class a) }
     ensures memory { IfErr result (λ fault. fault ≡ Faults.Memory) }
 {
     let talkers = all_talkers(alloc, settings, change, beside.table, streams, class)?;
@@ -395,7 +396,8 @@ pub fn sharing_answer(
     requires periodic { All IsPeriodic streams.now }
     requires some { 0 < length streams.now }
     ensures answer { IfOk result
-        (λ a. IsSharedAnswer settings.now change.now beside.entry.table.now beside.entry.above.now streams.now class a) }
+        (λ a. IsSharedAnswer settings.now change.now beside.entry.table.now beside.entry.above.now
+            streams.now class a) }
     ensures memory { IfErr result (λ fault. fault ≡ Faults.Memory) }
 {
     let open = open_above(schedule, beside.above, class);

@@ -120,7 +120,8 @@ fn wait_alone(
     requires table { All IsPeriodic beside.table.now }
     requires counted { All IsCounted beside.above.now }
     ensures wait { IfOk result
-        (λ wait. IsWaitAlone settings.now change.now beside.entry.table.now beside.entry.above.now class stream.now wait) }
+        (λ wait. IsWaitAlone settings.now change.now beside.entry.table.now beside.entry.above.now
+            class stream.now wait) }
     ensures memory { IfErr result (λ fault. fault ≡ Faults.Memory) }
 {
     let own = [*stream];
@@ -172,7 +173,8 @@ fn divided(
     requires table { All IsPeriodic beside.table.now }
     requires counted { All IsCounted beside.above.now }
     ensures shares { IfOk result
-        (λ shares. IsDivided settings.now change.now beside.entry.table.now beside.entry.above.now class stream.now whole shares) }
+        (λ shares. IsDivided settings.now change.now beside.entry.table.now beside.entry.above.now
+            class stream.now whole shares) }
     ensures memory { IfErr result (λ fault. fault ≡ Faults.Memory) }
 {
     let nothing = Beside {
@@ -209,7 +211,8 @@ pub fn shares_where(
     requires table { All IsPeriodic beside.table.now }
     requires counted { All IsCounted beside.above.now }
     ensures shares { IfOk result
-        (λ shares. AreSharesOf settings.now change.now beside.entry.table.now beside.entry.above.now class stream.now whole shares) }
+        (λ shares. AreSharesOf settings.now change.now beside.entry.table.now beside.entry.above.now
+            class stream.now whole shares) }
     ensures memory { IfErr result (λ fault. fault ≡ Faults.Memory) }
 {
     match whole {
@@ -241,7 +244,9 @@ pub fn asked_shares(
     requires place { place < length streams.now }
     ensures shares { IfOk result
         (λ shares. (x : Stream) → slice_get streams.now place ≡ Some x →
-        AreAskedShares settings.now.why settings.now change.now beside.entry.table.now beside.entry.above.now class x (greatest_of (delay_at settings.now change.now x class own.now place)) shares) }
+        AreAskedShares settings.now.why settings.now change.now beside.entry.table.now
+            beside.entry.above.now class x (greatest_of
+            (delay_at settings.now change.now x class own.now place)) shares) }
     ensures memory { IfErr result (λ fault. fault ≡ Faults.Memory) }
 {
     if !settings.why {

@@ -100,7 +100,9 @@ fn is_met_with(alloc: Global, case: &Case<'_>, jitter: u128) -> Result<bool, Bou
     requires stream { slice_get case.now.streams.now case.now.place ≡ Some case.now.stream }
     requires jitter { jitter ≤ greatest_moment }
     ensures met { IfOk result
-        (λ met. IsMetWith case.now.settings.now case.now.change.now case.now.beside.table.now case.now.beside.above.now case.now.streams.now case.now.class case.now.place case.now.stream case.now.deadline jitter met) }
+        (λ met. IsMetWith case.now.settings.now case.now.change.now case.now.beside.table.now
+            case.now.beside.above.now case.now.streams.now case.now.class case.now.place
+            case.now.stream case.now.deadline jitter met) }
     ensures memory { IfErr result (λ fault. fault ≡ Faults.Memory) }
 {
     let stream = jittered(case.stream, jitter);
@@ -151,10 +153,16 @@ fn narrowed(alloc: Global, case: &Case<'_>, met: u64, over: u64) -> Result<u64, 
     requires stream { slice_get case.now.streams.now case.now.place ≡ Some case.now.stream }
     requires order { met < over }
     requires within { over ≤ GREATEST + 1 }
-    requires met { IsMetWith case.now.settings.now case.now.change.now case.now.beside.table.now case.now.beside.above.now case.now.streams.now case.now.class case.now.place case.now.stream case.now.deadline (met * 1000) true }
-    requires over { IsOver case.now.settings.now case.now.change.now case.now.beside.table.now case.now.beside.above.now case.now.streams.now case.now.class case.now.place case.now.stream case.now.deadline (over * 1000) }
+    requires met { IsMetWith case.now.settings.now case.now.change.now case.now.beside.table.now
+        case.now.beside.above.now case.now.streams.now case.now.class case.now.place case.now.stream
+        case.now.deadline (met * 1000) true }
+    requires over { IsOver case.now.settings.now case.now.change.now case.now.beside.table.now
+        case.now.beside.above.now case.now.streams.now case.now.class case.now.place case.now.stream
+        case.now.deadline (over * 1000) }
     ensures slack { IfOk result
-        (λ found. IsSlack case.now.settings.now case.now.change.now case.now.beside.table.now case.now.beside.above.now case.now.streams.now case.now.class case.now.place case.now.stream case.now.deadline (Some (found * 1000))) }
+        (λ found. IsSlack case.now.settings.now case.now.change.now case.now.beside.table.now
+            case.now.beside.above.now case.now.streams.now case.now.class case.now.place
+            case.now.stream case.now.deadline (Some (found * 1000))) }
     ensures memory { IfErr result (λ fault. fault ≡ Faults.Memory) }
 {
     let mut low = met;
@@ -181,9 +189,13 @@ fn found_from(alloc: Global, case: &Case<'_>, guess: u64) -> Result<u64, BoundsF
     requires stream { slice_get case.now.streams.now case.now.place ≡ Some case.now.stream }
     requires above { 0 < guess }
     requires within { guess ≤ GREATEST }
-    requires met { IsMetWith case.now.settings.now case.now.change.now case.now.beside.table.now case.now.beside.above.now case.now.streams.now case.now.class case.now.place case.now.stream case.now.deadline 0 true }
+    requires met { IsMetWith case.now.settings.now case.now.change.now case.now.beside.table.now
+        case.now.beside.above.now case.now.streams.now case.now.class case.now.place case.now.stream
+        case.now.deadline 0 true }
     ensures slack { IfOk result
-        (λ found. IsSlack case.now.settings.now case.now.change.now case.now.beside.table.now case.now.beside.above.now case.now.streams.now case.now.class case.now.place case.now.stream case.now.deadline (Some (found * 1000))) }
+        (λ found. IsSlack case.now.settings.now case.now.change.now case.now.beside.table.now
+            case.now.beside.above.now case.now.streams.now case.now.class case.now.place
+            case.now.stream case.now.deadline (Some (found * 1000))) }
     ensures memory { IfErr result (λ fault. fault ≡ Faults.Memory) }
 {
     if is_met_with(alloc, case, u128::from(guess) * 1000)? {
@@ -202,7 +214,9 @@ fn slack_of(alloc: Global, case: &Case<'_>) -> Result<Option<u128>, BoundsFault>
     requires counted { All IsCounted case.now.beside.above.now }
     requires stream { slice_get case.now.streams.now case.now.place ≡ Some case.now.stream }
     ensures slack { IfOk result
-        (IsSlack case.now.settings.now case.now.change.now case.now.beside.table.now case.now.beside.above.now case.now.streams.now case.now.class case.now.place case.now.stream case.now.deadline) }
+        (IsSlack case.now.settings.now case.now.change.now case.now.beside.table.now
+            case.now.beside.above.now case.now.streams.now case.now.class case.now.place
+            case.now.stream case.now.deadline) }
     ensures memory { IfErr result (λ fault. fault ≡ Faults.Memory) }
 {
     if !is_met_with(alloc, case, 0)? {
@@ -233,7 +247,8 @@ fn slack_at(
     requires place { place < length streams.now }
     ensures slack { IfOk result
         (λ slack. (x : Stream) → slice_get streams.now place ≡ Some x →
-        IsSlackOf settings.now change.now beside.entry.table.now beside.entry.above.now streams.now class place x x.deadline slack) }
+        IsSlackOf settings.now change.now beside.entry.table.now beside.entry.above.now streams.now
+            class place x x.deadline slack) }
     ensures memory { IfErr result (λ fault. fault ≡ Faults.Memory) }
 {
     let stream = stream_at(streams, place);
@@ -274,7 +289,8 @@ pub fn asked_slack(
     requires place { place < length streams.now }
     ensures slack { IfOk result
         (λ slack. (x : Stream) → slice_get streams.now place ≡ Some x →
-        IsAskedSlack settings.now.slack settings.now change.now beside.entry.table.now beside.entry.above.now streams.now class place x slack) }
+        IsAskedSlack settings.now.slack settings.now change.now beside.entry.table.now
+            beside.entry.above.now streams.now class place x slack) }
     ensures memory { IfErr result (λ fault. fault ≡ Faults.Memory) }
 {
     if settings.slack {

@@ -264,7 +264,8 @@ pub fn resumed(slots: &CommandSlots, visits: &mut Visits) -> Option<Position>
 /// The legs of the commands that count.
 pub fn legs_ahead<'a>(slots: &'a CommandSlots, resumed: &'a Option<Position>) -> Ahead<'a>
     requires sound { AreCommands slots.now.commands }
-    requires stands { Stands slots.now.commands.in_force slots.now.commands.pending slots.now.commands.moment slots.now.position }
+    requires stands { Stands slots.now.commands.in_force slots.now.commands.pending
+        slots.now.commands.moment slots.now.position }
     requires resumes { Resumes slots.now.commands resumed.now }
     ensures shows { stretches_ahead result.leg (rest_of result) ≡ stretches_of slots.now.commands }
     ensures from { from_of result.leg ≡ slots.now.commands.moment }

@@ -45,7 +45,8 @@ pub fn lead_moment(command: Option<&AcceptedCommand>) -> Option<u128>
 fn until_boundary(slots: &CommandSlots) -> Option<u128>
     requires sound { AreCommands slots.now.commands }
     ensures boundary { result
-        ≡ boundary_in_force slots.now.commands.in_force slots.now.commands.pending slots.now.position }
+        ≡ boundary_in_force slots.now.commands.in_force slots.now.commands.pending
+            slots.now.position }
     ensures flat { (n : ℕ) →
         Stands slots.now.commands.in_force slots.now.commands.pending n slots.now.position →
         IsFlat (shows_under slots.now.commands.in_force slots.now.commands.pending) n result }
@@ -61,7 +62,8 @@ fn until_boundary(slots: &CommandSlots) -> Option<u128>
 #[inline(always)]
 pub fn edge_of(slots: &CommandSlots) -> Option<u128>
     requires sound { AreCommands slots.now.commands }
-    requires stands { Stands slots.now.commands.in_force slots.now.commands.pending slots.now.commands.moment slots.now.position }
+    requires stands { Stands slots.now.commands.in_force slots.now.commands.pending
+        slots.now.commands.moment slots.now.position }
     ensures edge { result ≡ edge_at slots.now.commands slots.now.position }
     ensures flat { IsFlat (gates (history_of slots.now.commands)) slots.now.commands.moment result }
     ensures event { IfSome result (IsGateEvent (history_of slots.now.commands)) }

@@ -169,7 +169,8 @@ impl CommandSlots {
         requires stood { (n : ℕ) × (n ≤ self.old.commands.moment)
             × Stands self.old.commands.in_force self.old.commands.pending n self.old.position }
         ensures commands { self.new.commands ≡ self.old.commands }
-        ensures stands { Stands self.new.commands.in_force self.new.commands.pending self.new.commands.moment self.new.position }
+        ensures stands { Stands self.new.commands.in_force self.new.commands.pending
+            self.new.commands.moment self.new.position }
         ensures counted { visits.old ≤ visits.new }
         ensures visits { visits.new
             ≤ visits.old + (entry_count (plan_of self.old.commands.in_force) + 1) }
@@ -199,7 +200,8 @@ impl CommandSlots {
         requires within { t ≤ greatest_moment }
         requires unpending { self.old.commands.pending ≡ None }
         requires unannounced { self.old.commands.announced ≡ None }
-        requires stands { Stands self.old.commands.in_force None self.old.commands.moment self.old.position }
+        requires stands { Stands self.old.commands.in_force None self.old.commands.moment
+            self.old.position }
         ensures value { self.new.commands ≡ record self.old.commands { moment = t } }
         ensures stands { Stands self.old.commands.in_force None t self.new.position }
         ensures sound { AreCommands self.new.commands }
@@ -222,7 +224,8 @@ impl CommandSlots {
     #[inline(never)]
     fn place(&mut self, visits: &mut Visits)
         ensures commands { self.new.commands ≡ self.old.commands }
-        ensures stands { Stands self.new.commands.in_force self.new.commands.pending self.new.commands.moment self.new.position }
+        ensures stands { Stands self.new.commands.in_force self.new.commands.pending
+            self.new.commands.moment self.new.position }
         ensures counted { visits.old ≤ visits.new }
         ensures visits { visits.new
             ≤ visits.old + (entry_count (plan_of self.old.commands.in_force) + 1) }
@@ -237,9 +240,11 @@ impl CommandSlots {
     pub fn move_on(&mut self, t: u128, visits: &mut Visits)
         requires later { self.old.commands.moment ≤ t }
         requires within { t ≤ greatest_moment }
-        requires stands { Stands self.old.commands.in_force self.old.commands.pending self.old.commands.moment self.old.position }
+        requires stands { Stands self.old.commands.in_force self.old.commands.pending
+            self.old.commands.moment self.old.position }
         ensures value { self.new.commands ≡ settled_at self.old.commands t }
-        ensures stands { Stands self.new.commands.in_force self.new.commands.pending self.new.commands.moment self.new.position }
+        ensures stands { Stands self.new.commands.in_force self.new.commands.pending
+            self.new.commands.moment self.new.position }
         ensures sound { AreCommands self.new.commands }
         ensures counted { visits.old ≤ visits.new }
         ensures visits { visits.new

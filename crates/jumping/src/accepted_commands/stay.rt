@@ -12,13 +12,15 @@ use wire_time::CLASSES;
 /// Whether a class stays open by the command in force, where another comes later.
 fn stays_open_alone(slots: &CommandSlots, need: Need) -> bool
     requires sound { AreCommands slots.now.commands }
-    requires stands { Stands slots.now.commands.in_force slots.now.commands.pending need.from slots.now.position }
+    requires stands { Stands slots.now.commands.in_force slots.now.commands.pending need.from
+        slots.now.position }
     requires class { need.class < CLASSES }
     requires moment { need.from ≤ 2 * greatest_moment }
     requires within { need.length ≤ greatest_moment }
     ensures { result
         ≡ open_while
-        (shows_under slots.now.commands.in_force slots.now.commands.pending) need.class need.from need.length }
+        (shows_under slots.now.commands.in_force slots.now.commands.pending) need.class need.from
+            need.length }
 {
     match list_in(slots.in_force()) {
         None => true,
@@ -32,7 +34,8 @@ fn stays_open_alone(slots: &CommandSlots, need: Need) -> bool
 /// Whether a class stays open through all the legs of the commands that count.
 fn stays_open_through(slots: &CommandSlots, resumed: &Option<Position>, need: Need) -> bool
     requires sound { AreCommands slots.now.commands }
-    requires stands { Stands slots.now.commands.in_force slots.now.commands.pending slots.now.commands.moment slots.now.position }
+    requires stands { Stands slots.now.commands.in_force slots.now.commands.pending
+        slots.now.commands.moment slots.now.position }
     requires resumes { Resumes slots.now.commands resumed.now }
     requires at { need.from ≡ slots.now.commands.moment }
     requires class { need.class < CLASSES }
@@ -58,7 +61,8 @@ fn is_shut_now(slots: &CommandSlots, need: Need) -> bool
 #[tactic(auto, using(crate::proofs::CommandLaws::alone_while))]
 pub fn stays_open(slots: &CommandSlots, resumed: &Option<Position>, need: Need) -> bool
     requires sound { AreCommands slots.now.commands }
-    requires stands { Stands slots.now.commands.in_force slots.now.commands.pending slots.now.commands.moment slots.now.position }
+    requires stands { Stands slots.now.commands.in_force slots.now.commands.pending
+        slots.now.commands.moment slots.now.position }
     requires resumes { Resumes slots.now.commands resumed.now }
     requires at { need.from ≡ slots.now.commands.moment }
     requires class { need.class < CLASSES }
