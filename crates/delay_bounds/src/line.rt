@@ -117,14 +117,14 @@ impl<A: Allocator> Line<A> {
         ensures told { IfOk result
             (λ told. arrives (may_by schedule.now class)
             (in_ps schedule.now.cycle) self.old.room t place flow self.old.track.free
-                self.old.track.nexts self.old.track.starts ≡ Some (told, self.new.track)) }
+            self.old.track.nexts self.old.track.starts ≡ Some (told, self.new.track)) }
         ensures fits { IfOk result (λ told. told.wait < 2 ^ 128) }
         ensures room { self.new.room ≡ self.old.room }
         ensures stop { MatchResult result
             (λ _. stop_of (may_by schedule.now class) (in_ps schedule.now.cycle) self.old.room t
-                flow self.old.track.free self.old.track.starts ≡ None)
+            flow self.old.track.free self.old.track.starts ≡ None)
             (λ stop. stop_of (may_by schedule.now class) (in_ps schedule.now.cycle) self.old.room t
-                flow self.old.track.free self.old.track.starts ≡ Some stop) }
+            flow self.old.track.free self.old.track.starts ≡ Some stop) }
         ensures same { IfErr result (λ _. self.new ≡ self.old) }
         ensures full { (result ≡ Err Stop.Full) ↔ (self.old.room ≤ length self.old.track.starts) }
         ensures late { (result ≡ Err Stop.Late) → (greatest_moment < max t self.old.track.free) }

@@ -301,8 +301,10 @@ impl<A: Allocator> Shapes<A> {
         requires class { class < WIRE }
         requires within { upto ≤ greatest_moment }
         ensures { self.new
-            ≡ record self.old { waits = wait_drawn self.old.view class came upto None
-                self.old.waits } }
+            ≡ record self.old {
+              waits = wait_drawn self.old.view class came upto None
+                  self.old.waits;
+            } }
     {
         draw_wait(self.view, &mut self.waits, class, came, upto, None);
     }

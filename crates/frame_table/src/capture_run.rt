@@ -79,14 +79,14 @@ fn run<A: Allocator + Clone, B: Allocator, C: Allocator, D: Allocator, R: Read, 
         (table_by streams.now
         (all_requests
         (kept_requests read script.now.octets.items script.now.lines.items) entries until) None
-            port.old.port arrivals.old)) }
+        port.old.port arrivals.old)) }
     ensures alerts { (read : List (List ℕ) → Result Command TcFault) → IsReader read →
         (entries : List Entry) (last : End) → Comes R.remaining (left records.old) entries last →
         Alerting H.alerted
         (asked_alerts streams.now
         (all_requests
         (kept_requests read script.now.octets.items script.now.lines.items) entries until) None
-            port.old.port arrivals.old) result watch.old watch.new }
+        port.old.port arrivals.old) result watch.old watch.new }
 {
     // For the prover: a call on a port says what holds of every port.
     let _now = port.now();

@@ -311,7 +311,7 @@ fn run_lines<A: Allocator + Clone, B: Allocator, C: Allocator, R: Read + Drop, W
         IfSome (script_left R.remaining lines.old)
         (λ script. WatchedRun H.alerted
         (alerts_from streams.now read until script port.old.port arrivals.old) result watch.old
-            watch.new) }
+        watch.new) }
 {
     settling();
     // For the prover: a call on a port says what holds of every port.
@@ -351,7 +351,7 @@ fn put_lines<A: Allocator + Clone, B: Allocator, C: Allocator, R: Read + Drop, W
         IfSome (script_left R.remaining lines.old)
         (λ script. WatchedRun H.alerted
         (alerts_from rows.old.streams.now read until script port.old.port rows.old.arrivals) result
-            watch.old watch.new) }
+        watch.old watch.new) }
 {
     if has_column(rows.streams) {
         let streams = rows.streams;
@@ -386,7 +386,7 @@ fn put_table<A: Allocator + Clone, B: Allocator, C: Allocator, R: Read + Drop, W
         IfSome (script_left R.remaining lines.old)
         (λ script. WatchedRun H.alerted
         (alerts_from rows.old.streams.now read until script port.old.port rows.old.arrivals) result
-            watch.old watch.new) }
+        watch.old watch.new) }
 {
     put_head(rows.streams, writer)?;
     put_lines(port, rows, lines, until, writer, watch)

@@ -44,9 +44,9 @@ impl Model for Jumping {
 
     ghost invariant = { λ g. AreCommands g.slots.commands
         × Stands g.slots.commands.in_force g.slots.commands.pending g.slots.commands.moment
-            g.slots.position × Resumes g.slots.commands g.resumed
-            × IsEdge g.slots.commands g.slots.position g.edge
-            × (g.mask ≡ shown_by g.slots.position) };
+        g.slots.position × Resumes g.slots.commands g.resumed
+        × IsEdge g.slots.commands g.slots.position g.edge
+        × (g.mask ≡ shown_by g.slots.position) };
 }
 
 /// Whether a moment is before another, if there is one; both are in picoseconds.

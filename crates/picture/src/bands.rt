@@ -271,7 +271,7 @@ fn mix_to<A: Allocator>(
         visits.new ≤ visits.old + most_mixed own.old.history * n }
     ensures drawn { IsDrawnInPieces
         (gates own.old.history) piece own.old.moment upto classes.old mixed.old classes.new
-            mixed.new }
+        mixed.new }
 {
     let mut now = own.now();
     while now < upto {
@@ -343,8 +343,10 @@ impl<A: Allocator> Bands<A> {
         requires ahead { self.old.moment < lead }
         requires within { lead ≤ greatest_moment + greatest_lead }
         ensures drawing { self.new
-            ≡ record self.old { history = history_with rate lead command.now self.old.history
-                self.old.moment } }
+            ≡ record self.old {
+              history = history_with rate lead command.now self.old.history
+                  self.old.moment;
+            } }
         ensures accepted { (p : AbstractPort) (change : ℕ) → p.history ≡ self.old.history →
             p.now ≡ self.old.moment → p.ps ≡ rate → p.now + lead_of p.ps p.mtu ≡ lead →
             (installs p command.now).0 ≡ Ok change →

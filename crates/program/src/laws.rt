@@ -9,16 +9,16 @@ ghost use Rattle.program.specs.Table.{program_app};
 pub fn replay_words()
     ensures taken { takes program_app
         (codes "taprio_port" ∷ codes "replay" ∷ codes "--until" ∷ codes "2ms" ∷ codes "script" ∷
-            codes "-" ∷ codes "out" ∷ []) ≡ true }
+        codes "-" ∷ codes "out" ∷ []) ≡ true }
     ensures refused { takes program_app
         (codes "taprio_port" ∷ codes "replay" ∷ codes "script" ∷ codes "-" ∷ [])
         ≡ false }
     ensures named { option_map (λ sub. sub.0)
         (subcommand_of program_app
         (codes "taprio_port" ∷ codes "replay" ∷ codes "--until" ∷ codes "2ms" ∷ codes "script" ∷
-            codes "-" ∷ codes "out" ∷ [])) ≡ Some (codes "replay") }
+        codes "-" ∷ codes "out" ∷ [])) ≡ Some (codes "replay") }
     ensures given { option_map (λ sub. first_of (codes "until") sub.1)
         (subcommand_of program_app
         (codes "taprio_port" ∷ codes "replay" ∷ codes "--until" ∷ codes "2ms" ∷ codes "script" ∷
-            codes "-" ∷ codes "out" ∷ [])) ≡ Some (Some (codes "2ms")) }
+        codes "-" ∷ codes "out" ∷ [])) ≡ Some (Some (codes "2ms")) }
 {}

@@ -36,8 +36,10 @@ pub(crate) fn put_end_of<A: Allocator, V: Write, P: Watch>(
 ) -> Result<(), WriteFault>
     ensures { Writes result (V.contents report.old) (V.contents report.new)
         (end_lines
-        (record sending.now.port.port { now = counted_to until sending.now.leaving.last
-            sending.now.port.port.now }) sending.now.summary) }
+        (record sending.now.port.port {
+          now = counted_to until sending.now.leaving.last
+              sending.now.port.port.now;
+        }) sending.now.summary) }
 {
     let now = sending.port.now();
     let moment = counted_to(until, sending.leaving.last, now);

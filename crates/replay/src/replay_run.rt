@@ -143,7 +143,7 @@ fn run<A: Allocator + Clone, B: Allocator, C: Allocator, R: Read, W: PutLine, V:
         (record {
           output = told_to_end origin
               (merged (timed_from 0 (kept_requests read script.now.octets.items
-                  script.now.lines.items))
+              script.now.lines.items))
               (came_from 0 0 origin.entries)) until sending.old.port.port sending.old.summary;
           fault = end_fault (length origin.entries) last;
         }) }

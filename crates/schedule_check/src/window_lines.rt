@@ -163,7 +163,7 @@ fn put_open<W: Write>(
     ensures { Writes result (W.contents writer.old) (W.contents writer.new)
         (window_line class window.now
         ++ waits_text settings.now.rate schedule.now class settings.now.frame
-            window.now.longest_frame) }
+        window.now.longest_frame) }
 {
     put_window(writer, class, window)?;
     put_waits(
@@ -189,7 +189,7 @@ fn put_told<W: Write>(
     ensures { Writes result (W.contents writer.old) (W.contents writer.new)
         (told_line led class window.now
         (waits_text settings.now.rate schedule.now class settings.now.frame
-            window.now.longest_frame)) }
+        window.now.longest_frame)) }
 {
     if window.share == 0 {
         put_never(writer, led, class)

@@ -64,7 +64,7 @@ pub trait Observer<W> {
     fn clock_refused(&mut self, now: u128, out: &mut W) -> Result<(), Halt>
         ensures { Tells heard cut
             (Answered now Otherwise Answers.Backward ∷ []) result self.old out.old self.new
-                out.new };
+            out.new };
 
     /// A report is asked for.
     fn report_asked(&mut self, now: u128, report: &Report, out: &mut W) -> Result<(), Halt>

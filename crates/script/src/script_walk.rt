@@ -35,7 +35,7 @@ fn take_frame<A: Allocator, W, O: Observer<W>, H: Watch>(
 ) -> Result<(), Halt>
     ensures taken { IsTaken O.heard O.cut
         (Asks (Events.Arrive frame.now)) result port.old port.new observer.old out.old observer.new
-            out.new }
+        out.new }
     ensures alerts { H.alerted
         (alerts_of (told_to (Asks (Events.Arrive frame.now)) port.old.port)) watch.old watch.new }
 {
@@ -61,7 +61,7 @@ fn take_starts<A: Allocator, W, O: Observer<W>>(
     requires within { until ≤ greatest_moment }
     ensures { IsTaken O.heard O.cut
         (Asks (Events.Clock until)) result port.old port.new observer.old out.old observer.new
-            out.new }
+        out.new }
 {
     let now = port.now();
     while let Some(start) = port.step(until) {
@@ -80,7 +80,7 @@ fn take_clock<A: Allocator, W, O: Observer<W>>(
 ) -> Result<(), Halt>
     ensures { IsTaken O.heard O.cut
         (Asks (Events.Clock until)) result port.old port.new observer.old out.old observer.new
-            out.new }
+        out.new }
 {
     let now = port.now();
     if now <= until && until <= MAX_MOMENT {
@@ -130,7 +130,7 @@ fn take_count<A: Allocator, W, O: Observer<W>>(
 ) -> Result<(), Halt>
     ensures { IsTaken O.heard O.cut
         (Asks (Events.Count class)) result port.now port.now observer.old out.old observer.new
-            out.new }
+        out.new }
 {
     let now = port.now();
     if class >= CLASSES as u8 {
@@ -160,7 +160,7 @@ fn take_command<A: Allocator, W, O: Observer<W>, H: Watch>(
 ) -> Result<(), Halt>
     ensures taken { IsTaken O.heard O.cut
         (Asks (Events.Install command.entry)) result port.old port.new observer.old out.old
-            observer.new out.new }
+        observer.new out.new }
     ensures alerts { H.alerted
         (alerts_of
         (told_to (Asks (Events.Install command.entry)) port.old.port)) watch.old watch.new }
@@ -237,7 +237,7 @@ pub fn take_tc<A: Allocator, W, O: Observer<W>, H: Watch>(
         IsTaken O.heard O.cut
         (tc_request
         (read (words_of line.now))) result port.old port.new observer.old out.old observer.new
-            out.new }
+        out.new }
     ensures alerts { (read : List (List ℕ) → Result Command TcFault) → IsReader read →
         H.alerted
         (alerts_of
@@ -299,7 +299,7 @@ pub fn walk<A: Allocator, B: Allocator, R: Read + Drop, W, O: Observer<W>, H: Wa
         IfSome (script_left R.remaining lines.old)
         (λ script. Walked O.heard O.cut
         (reading_of read script) port.old.port port.new.port result observer.old out.old
-            observer.new out.new) }
+        observer.new out.new) }
     ensures alerts { (read : List (List ℕ) → Result Command TcFault) → IsReader read →
         IfSome (script_left R.remaining lines.old)
         (λ script. Watched H.alerted

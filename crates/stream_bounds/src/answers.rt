@@ -47,7 +47,7 @@ fn class_answer(
     requires counted { All IsCounted beside.above.now }
     ensures answer { IfOk result
         (λ j. IsClassAnswer settings.now change.now beside.entry.table.now beside.entry.above.now
-            class j.answer) }
+        class j.answer) }
     ensures standing { IfOk result
         (λ j. j.standing
         ≡ standing_of settings.now change.now class

@@ -399,7 +399,7 @@ pub fn own_answer(
     requires counted { All IsCounted beside.above.now }
     ensures answer { IfOk result
         (λ a. IsOwnAnswer settings.now change.now beside.entry.table.now beside.entry.above.now
-            streams.now class a) }
+        streams.now class a) }
     ensures memory { IfErr result (λ fault. fault ≡ Faults.Memory) }
 {
     if streams.len() == 0 {

@@ -65,7 +65,7 @@ fn extra_at(
     ensures extra { IfOk result
         (λ extra. (x : Stream) → slice_get streams.now place ≡ Some x →
         IsExtra settings.now change.now beside.entry.table.now beside.entry.above.now streams.now
-            class own.now place x extra) }
+        class own.now place x extra) }
     ensures memory { IfErr result (λ fault. fault ≡ Faults.Memory) }
 {
     let slack = asked_slack(
@@ -95,7 +95,7 @@ fn all_extras(
     requires counted { All IsCounted beside.above.now }
     ensures extras { IfOk result
         (λ extras. AreExtras settings.now change.now beside.entry.table.now beside.entry.above.now
-            streams.now class own.now extras.items) }
+        streams.now class own.now extras.items) }
     ensures memory { IfErr result (λ fault. fault ≡ Faults.Memory) }
 {
     let mut extras = Vec::new(alloc);
@@ -131,7 +131,7 @@ pub fn extras_of(
         (λ extras. AreAskedExtras
         (settings.now.slack
         || settings.now.why) settings.now change.now beside.entry.table.now beside.entry.above.now
-            streams.now class own.now extras.items) }
+        streams.now class own.now extras.items) }
     ensures memory { IfErr result (λ fault. fault ≡ Faults.Memory) }
 {
     if settings.slack || settings.why {

@@ -369,7 +369,7 @@ fn bounded_answer(
     requires some { 0 < length streams.now }
     ensures answer { IfOk result
         (λ a. IsBoundedAnswer settings.now change.now beside.entry.table.now beside.entry.above.now
-            streams.now class a) }
+        streams.now class a) }
     ensures memory { IfErr result (λ fault. fault ≡ Faults.Memory) }
 {
     let talkers = all_talkers(alloc, settings, change, beside.table, streams, class)?;
@@ -397,7 +397,7 @@ pub fn sharing_answer(
     requires some { 0 < length streams.now }
     ensures answer { IfOk result
         (λ a. IsSharedAnswer settings.now change.now beside.entry.table.now beside.entry.above.now
-            streams.now class a) }
+        streams.now class a) }
     ensures memory { IfErr result (λ fault. fault ≡ Faults.Memory) }
 {
     let open = open_above(schedule, beside.above, class);

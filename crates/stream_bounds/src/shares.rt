@@ -121,7 +121,7 @@ fn wait_alone(
     requires counted { All IsCounted beside.above.now }
     ensures wait { IfOk result
         (λ wait. IsWaitAlone settings.now change.now beside.entry.table.now beside.entry.above.now
-            class stream.now wait) }
+        class stream.now wait) }
     ensures memory { IfErr result (λ fault. fault ≡ Faults.Memory) }
 {
     let own = [*stream];
@@ -174,7 +174,7 @@ fn divided(
     requires counted { All IsCounted beside.above.now }
     ensures shares { IfOk result
         (λ shares. IsDivided settings.now change.now beside.entry.table.now beside.entry.above.now
-            class stream.now whole shares) }
+        class stream.now whole shares) }
     ensures memory { IfErr result (λ fault. fault ≡ Faults.Memory) }
 {
     let nothing = Beside {
@@ -212,7 +212,7 @@ pub fn shares_where(
     requires counted { All IsCounted beside.above.now }
     ensures shares { IfOk result
         (λ shares. AreSharesOf settings.now change.now beside.entry.table.now beside.entry.above.now
-            class stream.now whole shares) }
+        class stream.now whole shares) }
     ensures memory { IfErr result (λ fault. fault ≡ Faults.Memory) }
 {
     match whole {
@@ -245,8 +245,8 @@ pub fn asked_shares(
     ensures shares { IfOk result
         (λ shares. (x : Stream) → slice_get streams.now place ≡ Some x →
         AreAskedShares settings.now.why settings.now change.now beside.entry.table.now
-            beside.entry.above.now class x (greatest_of
-            (delay_at settings.now change.now x class own.now place)) shares) }
+        beside.entry.above.now class x (greatest_of
+        (delay_at settings.now change.now x class own.now place)) shares) }
     ensures memory { IfErr result (λ fault. fault ≡ Faults.Memory) }
 {
     if !settings.why {

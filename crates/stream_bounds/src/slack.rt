@@ -101,8 +101,8 @@ fn is_met_with(alloc: Global, case: &Case<'_>, jitter: u128) -> Result<bool, Bou
     requires jitter { jitter ≤ greatest_moment }
     ensures met { IfOk result
         (λ met. IsMetWith case.now.settings.now case.now.change.now case.now.beside.table.now
-            case.now.beside.above.now case.now.streams.now case.now.class case.now.place
-            case.now.stream case.now.deadline jitter met) }
+        case.now.beside.above.now case.now.streams.now case.now.class case.now.place
+        case.now.stream case.now.deadline jitter met) }
     ensures memory { IfErr result (λ fault. fault ≡ Faults.Memory) }
 {
     let stream = jittered(case.stream, jitter);
@@ -161,8 +161,8 @@ fn narrowed(alloc: Global, case: &Case<'_>, met: u64, over: u64) -> Result<u64, 
         case.now.deadline (over * 1000) }
     ensures slack { IfOk result
         (λ found. IsSlack case.now.settings.now case.now.change.now case.now.beside.table.now
-            case.now.beside.above.now case.now.streams.now case.now.class case.now.place
-            case.now.stream case.now.deadline (Some (found * 1000))) }
+        case.now.beside.above.now case.now.streams.now case.now.class case.now.place
+        case.now.stream case.now.deadline (Some (found * 1000))) }
     ensures memory { IfErr result (λ fault. fault ≡ Faults.Memory) }
 {
     let mut low = met;
@@ -194,8 +194,8 @@ fn found_from(alloc: Global, case: &Case<'_>, guess: u64) -> Result<u64, BoundsF
         case.now.deadline 0 true }
     ensures slack { IfOk result
         (λ found. IsSlack case.now.settings.now case.now.change.now case.now.beside.table.now
-            case.now.beside.above.now case.now.streams.now case.now.class case.now.place
-            case.now.stream case.now.deadline (Some (found * 1000))) }
+        case.now.beside.above.now case.now.streams.now case.now.class case.now.place
+        case.now.stream case.now.deadline (Some (found * 1000))) }
     ensures memory { IfErr result (λ fault. fault ≡ Faults.Memory) }
 {
     if is_met_with(alloc, case, u128::from(guess) * 1000)? {
@@ -215,8 +215,8 @@ fn slack_of(alloc: Global, case: &Case<'_>) -> Result<Option<u128>, BoundsFault>
     requires stream { slice_get case.now.streams.now case.now.place ≡ Some case.now.stream }
     ensures slack { IfOk result
         (IsSlack case.now.settings.now case.now.change.now case.now.beside.table.now
-            case.now.beside.above.now case.now.streams.now case.now.class case.now.place
-            case.now.stream case.now.deadline) }
+        case.now.beside.above.now case.now.streams.now case.now.class case.now.place
+        case.now.stream case.now.deadline) }
     ensures memory { IfErr result (λ fault. fault ≡ Faults.Memory) }
 {
     if !is_met_with(alloc, case, 0)? {
@@ -248,7 +248,7 @@ fn slack_at(
     ensures slack { IfOk result
         (λ slack. (x : Stream) → slice_get streams.now place ≡ Some x →
         IsSlackOf settings.now change.now beside.entry.table.now beside.entry.above.now streams.now
-            class place x x.deadline slack) }
+        class place x x.deadline slack) }
     ensures memory { IfErr result (λ fault. fault ≡ Faults.Memory) }
 {
     let stream = stream_at(streams, place);
@@ -290,7 +290,7 @@ pub fn asked_slack(
     ensures slack { IfOk result
         (λ slack. (x : Stream) → slice_get streams.now place ≡ Some x →
         IsAskedSlack settings.now.slack settings.now change.now beside.entry.table.now
-            beside.entry.above.now streams.now class place x slack) }
+        beside.entry.above.now streams.now class place x slack) }
     ensures memory { IfErr result (λ fault. fault ≡ Faults.Memory) }
 {
     if settings.slack {

@@ -93,7 +93,7 @@ fn stream_in_words(words: &StreamWords<'_>, ends: Ends) -> Result<Stream, Script
     ensures fits { IfOk result IsSaid }
     ensures said { result
         ≡ stream_in_words words.now.id.now words.now.priority.now words.now.len.now
-            words.now.period.now words.now.offset.now words.now.count.now ends }
+        words.now.period.now words.now.offset.now words.now.count.now ends }
 {
     let Some(id) = number(words.id, u128::from(u64::MAX)) else {
         return Err(ScriptFault::BadNumber);

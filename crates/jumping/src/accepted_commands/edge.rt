@@ -46,7 +46,7 @@ fn until_boundary(slots: &CommandSlots) -> Option<u128>
     requires sound { AreCommands slots.now.commands }
     ensures boundary { result
         ≡ boundary_in_force slots.now.commands.in_force slots.now.commands.pending
-            slots.now.position }
+        slots.now.position }
     ensures flat { (n : ℕ) →
         Stands slots.now.commands.in_force slots.now.commands.pending n slots.now.position →
         IsFlat (shows_under slots.now.commands.in_force slots.now.commands.pending) n result }

@@ -20,7 +20,7 @@ fn stays_open_alone(slots: &CommandSlots, need: Need) -> bool
     ensures { result
         ≡ open_while
         (shows_under slots.now.commands.in_force slots.now.commands.pending) need.class need.from
-            need.length }
+        need.length }
 {
     match list_in(slots.in_force()) {
         None => true,
