@@ -95,13 +95,13 @@ again (flow ∷ flows) from every above whole =
 
 module _ (may : ℕ → ℕ → Bool) (d : ℕ) where
   -- there is one
-  one_sent : (t n free x y : ℕ) → AreSent may d t n free x → AreSent may d t n free y → x ≡ y
+  pub one_sent : (t n free x y : ℕ) → AreSent may d t n free x → AreSent may d t n free y → x ≡ y
   one_sent t zero free x y a b = a ∙ sym b
   one_sent t (suc n) free x y a b =
       let same = one_first may d (max t free) a.0 b.0 a.1 b.1 in
       one_sent t n (b.0 + d) x y (subst (λ s. AreSent may d t n (s + d) x) same a.2) b.2
 
-  one_free : (flows : List PeriodicFlow) (t x y : ℕ) → IsFreeFrom may d flows t x → IsFreeFrom may d flows t y → x ≡ y
+  pub one_free : (flows : List PeriodicFlow) (t x y : ℕ) → IsFreeFrom may d flows t x → IsFreeFrom may d flows t y → x ≡ y
   one_free flows zero x y a b = a ∙ sym b
   one_free flows (suc t) x y a b =
       let same = one_free flows t a.0 b.0 a.1 b.1 in

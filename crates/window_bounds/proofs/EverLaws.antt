@@ -9,7 +9,7 @@ use Rattle.any_traffic.specs.PeriodicRoom.{AreFewLate, HaveStarted, IsLateFrame}
 use Rattle.any_traffic.specs.PeriodicWindows.{AreSent, IsFreeFrom, IsLateStart, PeriodicFlow, before, can_by, must_before, window_of}
 use Rattle.any_traffic.specs.Slots.{IsSlot}
 use Rattle.any_traffic.proofs.ListLaws.{none_here}
-use Rattle.any_traffic.proofs.LateForEverLaws.{Again, again, free_on}
+use Rattle.any_traffic.proofs.LateForEverLaws.{Again, again, free_on, one_free}
 use Rattle.any_traffic.proofs.PeriodicWindowLaws.{HavePeriod, before_is, before_of, must_more}
 use Rattle.any_traffic.proofs.SlotLaws.{slot_later}
 use Rattle.burst_bounds.proofs.SlotLaws.{slot_from, slots_rise}
@@ -53,20 +53,7 @@ more_by (g ∷ flows) u v above f e begun le =
         omega (arith, last, parts, far)
 
 module _ (may : ℕ → ℕ → Bool) (d : ℕ) where
-  -- ---- the wire is free from one moment, and from no earlier one later
-
-  one_sent : (t n free x y : ℕ) → AreSent may d t n free x → AreSent may d t n free y → x ≡ y
-  one_sent t zero free x y a b = a ∙ sym b
-  one_sent t (suc n) free x y a b =
-      let same = one_first may d (max t free) a.0 b.0 a.1 b.1 in
-      one_sent t n (b.0 + d) x y (subst (λ s. AreSent may d t n (s + d) x) same a.2) b.2
-
-  one_free : (flows : List PeriodicFlow) (t x y : ℕ) → IsFreeFrom may d flows t x → IsFreeFrom may d flows t y → x ≡ y
-  one_free flows zero x y a b = a ∙ sym b
-  one_free flows (suc t) x y a b =
-      let same = one_free flows t a.0 b.0 a.1 b.1 in
-      one_sent t (must_before flows (suc t) - must_before flows t) b.0 x y
-      (subst (λ w. AreSent may d t (must_before flows (suc t) - must_before flows t) w x) same a.2) b.2
+  -- ---- the wire is free from no earlier moment later
 
   module _ (above : 0 < d) where
     sent_grows : (t n free later : ℕ) → AreSent may d t n free later → free + n ≤ later
@@ -139,7 +126,7 @@ module _ (may : ℕ → ℕ → Bool) (d : ℕ) where
                   let x = free_back (suc a.moment) (b.moment - suc a.moment) b.free
                   (subst (λ t. IsFreeFrom may d flows t b.free) (sym at) b.is) in
                   let g = x.1 in
-                  let same = one_free flows a.moment g.0 a.free g.1 a.is in
+                  let same = one_free may d flows a.moment g.0 a.free g.1 a.is in
                   let less = a.less in
                   let ends = sent_after a.moment (must_before flows (suc a.moment) - must_before flows a.moment) a.free x.0
                   (k - must_before flows a.moment) s (omega (arith, first, less))
@@ -150,7 +137,7 @@ module _ (may : ℕ → ℕ → Bool) (d : ℕ) where
               | inr back ↦
                   let e : b.moment ≡ a.moment = omega (arith, order, back) in
                   let is = subst (λ t. IsFreeFrom may d flows t b.free) e b.is in
-                  let same = one_free flows a.moment b.free a.free is a.is in
+                  let same = one_free may d flows a.moment b.free a.free is a.is in
                   let u : max b.moment b.free ≡ max a.moment a.free = omega (arith, e, same) in
                   let n = ap (λ t. j - must_before flows t) e in
                   let slot = subst (λ m. IsSlot may d (max a.moment a.free) m r) n
