@@ -17,7 +17,7 @@ use crate::tables::{has_own, own_of, table_of};
 use std::alloc::Global;
 use std::marker::Model;
 use stream_bounds::{
-    Beside, BoundsFault, ClassAnswer, Verdict, sharing_answer, unbounded, windows_answer,
+    BoundsFault, Case, ClassAnswer, Verdict, sharing_answer, unbounded, windows_answer,
 };
 
 /// The greatest number of ports.
@@ -132,16 +132,21 @@ fn pair_answer(alloc: Global, pair: Pair<'_>) -> Result<ClassAnswer, BoundsFault
     if own.len() == 0 {
         return Ok(unbounded(alloc, Verdict::Idle));
     }
-    if schedule.keeps_apart(pair.class) {
-        return windows_answer(alloc, settings, change, schedule, own, pair.class);
-    }
     let table = table_of(alloc, pair.hops, pair.number)?;
     let above = standings_above(alloc, pair)?;
-    let beside = Beside {
+    let case = Case {
+        settings,
+        change,
+        schedule,
         table: table.as_slice(),
         above: above.as_slice(),
+        class: pair.class,
     };
-    sharing_answer(alloc, settings, change, schedule, beside, own, pair.class)
+    if schedule.keeps_apart(pair.class) {
+        windows_answer(alloc, &case, own)
+    } else {
+        sharing_answer(alloc, &case, own)
+    }
 }
 
 /// A verdict, and the answer that it stands on.

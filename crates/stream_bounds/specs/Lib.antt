@@ -1,10 +1,12 @@
 pub mod Answers
 pub mod BoundLines
 pub mod BoundsEnd
+pub mod Case
 pub mod Classes
 pub mod Faults
 pub mod Outcome
 pub mod Shared
 pub mod Standing
 pub mod TableRead
+pub mod Timed
 pub mod Verdicts

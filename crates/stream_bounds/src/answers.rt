@@ -4,17 +4,18 @@ ghost use Rattle.std.specs.Prelude.{◌≡◌, ◌<◌, All, IfErr, IfOk, None, 
 ghost use Rattle.abstract_port.specs.AbstractPort.{plan_asked};
 ghost use Rattle.job.specs.declared.fault.Fault.TheVariants as Faults;
 ghost use Rattle.wire_time.specs.declared.TheConstants.{CLASSES};
+ghost use Rattle.stream_bounds.specs.Case.{IsCase};
 ghost use Rattle.stream_bounds.specs.Classes.{IsPeriodic, streams_of};
 ghost use Rattle.stream_bounds.specs.Standing.{IsCounted, standing_of};
 ghost use Rattle.stream_bounds.specs.Answers.{AreClassAnswers, IsClassAnswer};
 ghost use Rattle.stream_bounds.specs.Verdicts.{answer_at, delay_of, extra_at, extra_of, extra_told, left_after, one_told};
 
+use crate::case::Case;
 use crate::class_answer::{ClassAnswer, own_answer};
 use crate::classes::streams_of;
 use crate::extras::{Extra, extras_of};
 use crate::faults::BoundsFault;
 use crate::settings::BoundsSettings;
-use crate::shared::Beside;
 use crate::standing::{Standing, standing_of};
 use crate::verdicts::{Delay, Verdict, delay_by};
 use abstract_port::{Change, Dropped};
@@ -33,39 +34,58 @@ struct Judged {
 }
 
 /// The answer about a class, and what it is for those below it.
-fn class_answer(
-    alloc: Global,
-    settings: &BoundsSettings,
-    change: &Change,
-    schedule: &Schedule,
-    beside: Beside<'_>,
-    class: u8,
-) -> Result<Judged, BoundsFault>
-    requires class { class < CLASSES }
-    requires plan { schedule.now ≡ plan_asked change.now }
-    requires periodic { All IsPeriodic beside.table.now }
-    requires counted { All IsCounted beside.above.now }
+fn class_answer(alloc: Global, case: &Case<'_>) -> Result<Judged, BoundsFault>
+    requires { IsCase case.now }
     ensures answer { IfOk result
-        (λ j. IsClassAnswer settings.now change.now beside.entry.table.now beside.entry.above.now
-        class j.answer) }
+        (λ j. IsClassAnswer case.now.settings.now case.now.change.now case.now.table.now
+        case.now.above.now case.now.class j.answer) }
     ensures standing { IfOk result
         (λ j. j.standing
-        ≡ standing_of settings.now change.now class
-        (streams_of settings.now change.now class beside.entry.table.now) j.answer.verdict) }
+        ≡ standing_of case.now.settings.now case.now.change.now case.now.class
+        (streams_of case.now.settings.now case.now.change.now case.now.class case.now.table.now)
+        j.answer.verdict) }
     ensures counted { IfOk result (λ j. IsCounted j.standing) }
     ensures memory { IfErr result (λ fault. fault ≡ Faults.Memory) }
 {
-    let own = streams_of(alloc, settings, change, beside.table, class)?;
+    let (settings, change) = (case.settings, case.change);
+    let own = streams_of(alloc, settings, change, case.table, case.class)?;
     let own = own.as_slice();
-    let answer = own_answer(alloc, settings, change, schedule, beside, own, class)?;
-    let extras = extras_of(
-        alloc, settings, change, schedule, beside, own, class, &answer,
-    )?;
-    let standing = standing_of(settings, change, class, own, answer.verdict());
+    let answer = own_answer(alloc, case, own)?;
+    let extras = extras_of(alloc, case, own, &answer)?;
+    let standing = standing_of(settings, change, case.class, own, answer.verdict());
     Ok(Judged {
         answer: answer.with_extras(extras),
         standing,
     })
+}
+
+/// The answer about a class below others that stand so, in the same schedule.
+fn answer_below(
+    alloc: Global,
+    case: &Case<'_>,
+    above: &[Standing],
+    class: u8,
+) -> Result<Judged, BoundsFault>
+    requires case { IsCase case.now }
+    requires counted { All IsCounted above.now }
+    requires class { class < CLASSES }
+    ensures answer { IfOk result
+        (λ j. IsClassAnswer case.now.settings.now case.now.change.now case.now.table.now above.now
+        class j.answer) }
+    ensures standing { IfOk result
+        (λ j. j.standing
+        ≡ standing_of case.now.settings.now case.now.change.now class
+        (streams_of case.now.settings.now case.now.change.now class case.now.table.now)
+        j.answer.verdict) }
+    ensures counted { IfOk result (λ j. IsCounted j.standing) }
+    ensures memory { IfErr result (λ fault. fault ≡ Faults.Memory) }
+{
+    let case = Case {
+        above,
+        class,
+        ..*case
+    };
+    class_answer(alloc, &case)
 }
 
 /// The answers about all classes.
@@ -97,102 +117,33 @@ fn all_answers(
     ensures answers { IfOk result (AreClassAnswers settings.now change.now table.now) }
     ensures memory { IfErr result (λ fault. fault ≡ Faults.Memory) }
 {
-    let g = class_answer(
-        alloc,
+    let case = Case {
         settings,
         change,
         schedule,
-        Beside { table, above: &[] },
-        7,
-    )?;
+        table,
+        above: &[],
+        class: 7,
+    };
+    let g = class_answer(alloc, &case)?;
     let above = [g.standing];
-    let f = class_answer(
-        alloc,
-        settings,
-        change,
-        schedule,
-        Beside {
-            table,
-            above: &above,
-        },
-        6,
-    )?;
+    let f = answer_below(alloc, &case, &above, 6)?;
     let above = [f.standing, g.standing];
-    let e = class_answer(
-        alloc,
-        settings,
-        change,
-        schedule,
-        Beside {
-            table,
-            above: &above,
-        },
-        5,
-    )?;
+    let e = answer_below(alloc, &case, &above, 5)?;
     let above = [e.standing, f.standing, g.standing];
-    let d = class_answer(
-        alloc,
-        settings,
-        change,
-        schedule,
-        Beside {
-            table,
-            above: &above,
-        },
-        4,
-    )?;
+    let d = answer_below(alloc, &case, &above, 4)?;
     let above = [d.standing, e.standing, f.standing, g.standing];
-    let c = class_answer(
-        alloc,
-        settings,
-        change,
-        schedule,
-        Beside {
-            table,
-            above: &above,
-        },
-        3,
-    )?;
+    let c = answer_below(alloc, &case, &above, 3)?;
     let above = [c.standing, d.standing, e.standing, f.standing, g.standing];
-    let b = class_answer(
-        alloc,
-        settings,
-        change,
-        schedule,
-        Beside {
-            table,
-            above: &above,
-        },
-        2,
-    )?;
+    let b = answer_below(alloc, &case, &above, 2)?;
     let above = [
         b.standing, c.standing, d.standing, e.standing, f.standing, g.standing,
     ];
-    let a = class_answer(
-        alloc,
-        settings,
-        change,
-        schedule,
-        Beside {
-            table,
-            above: &above,
-        },
-        1,
-    )?;
+    let a = answer_below(alloc, &case, &above, 1)?;
     let above = [
         a.standing, b.standing, c.standing, d.standing, e.standing, f.standing, g.standing,
     ];
-    let z = class_answer(
-        alloc,
-        settings,
-        change,
-        schedule,
-        Beside {
-            table,
-            above: &above,
-        },
-        0,
-    )?;
+    let z = answer_below(alloc, &case, &above, 0)?;
     Ok([
         z.answer, a.answer, b.answer, c.answer, d.answer, e.answer, f.answer, g.answer,
     ])

@@ -1,18 +1,18 @@
 //! The answer about a class, by its streams.
 
 ghost use Rattle.std.specs.Prelude.{◌≡◌, ◌≢◌, ◌<◌, All, Err, None, Ok, IfErr, IfOk, Result, [], drop, length, nat_le, slice_get, true, unwrap_or};
-ghost use Rattle.abstract_port.specs.AbstractPort.{plan_asked};
 ghost use Rattle.job.specs.declared.fault.Fault.TheVariants as Faults;
 ghost use Rattle.wire_time.specs.declared.TheConstants.{CLASSES};
 ghost use Rattle.burst_bounds.specs.declared.Unbound.TheVariants as BurstFaults;
 ghost use Rattle.delay_bounds.specs.Bounded.{Answer};
 ghost use Rattle.window_bounds.specs.declared.Unbound.TheVariants as WindowFaults;
+ghost use Rattle.stream_bounds.specs.Case.{IsCase};
 ghost use Rattle.stream_bounds.specs.Classes.{IsPeriodic, has_any, has_inexact};
-ghost use Rattle.stream_bounds.specs.Standing.{IsCounted};
 ghost use Rattle.stream_bounds.specs.TableRead.{IsAnswered};
 ghost use Rattle.stream_bounds.specs.Verdicts.{IsApartAnswer, IsBurstAnswer, IsAnswerWith, IsOwnAnswer, IsWindowAnswer, apart_answer, burst_answer, exact_answer, no_extra, unbounded, windows_of, within_room};
 ghost use Rattle.stream_bounds.specs.Answers.{with_extras};
 
+use crate::case::Case;
 use crate::classes::{
     are_any, are_equal, flows_of, has_any, has_inexact, ids_of, jittered_flows_of, most_sdu,
     ranges_of, talkers_of,
@@ -20,9 +20,8 @@ use crate::classes::{
 use crate::extras::Extra;
 use crate::faults::BoundsFault;
 use crate::settings::BoundsSettings;
-use crate::shared::{Beside, sharing_answer};
+use crate::shared::sharing_answer;
 use crate::verdicts::{Verdict, verdict_of};
-use abstract_port::Change;
 use burst_bounds::{Bounds as BurstBounds, Unbound as BurstUnbound, burst_bounds};
 use delay_bounds::{Bound, Bounded, Unbound, bound_flows};
 use gates::gate_list::Schedule;
@@ -243,23 +242,21 @@ fn burst_answer(
 /// apart.
 fn any_answer(
     alloc: Global,
-    settings: &BoundsSettings,
-    change: &Change,
-    schedule: &Schedule,
+    case: &Case<'_>,
     streams: &[Stream],
-    class: u8,
 ) -> Result<ClassAnswer, BoundsFault>
-    requires class { class < CLASSES }
-    requires plan { schedule.now ≡ plan_asked change.now }
+    requires case { IsCase case.now }
     requires periodic { All IsPeriodic streams.now }
     requires some { 0 < length streams.now }
-    ensures answer { IfOk result (λ a. IsBurstAnswer settings.now change.now streams.now class a) }
+    ensures answer { IfOk result (λ a.
+        IsBurstAnswer case.now.settings.now case.now.change.now streams.now case.now.class a) }
     ensures memory { IfErr result (λ fault. fault ≡ Faults.Memory) }
 {
-    let sdu = most_sdu(settings, change, class);
+    let settings = case.settings;
+    let sdu = most_sdu(settings, case.change, case.class);
     let talkers = talkers_of(alloc, settings.port.rate(), sdu, streams)?;
     let limit = settings.frames.min(u64::from(u32::MAX)) as u32;
-    let told = burst_bounds(&alloc, schedule, class, talkers.as_slice(), limit);
+    let told = burst_bounds(&alloc, case.schedule, case.class, talkers.as_slice(), limit);
     burst_answer(alloc, settings.port.room(), streams, told)
 }
 
@@ -274,26 +271,23 @@ pub fn unbounded(alloc: Global, verdict: Verdict) -> ClassAnswer
 /// at, it is that by how far apart they come.
 fn answer_with(
     alloc: Global,
-    settings: &BoundsSettings,
-    change: &Change,
-    schedule: &Schedule,
+    case: &Case<'_>,
     streams: &[Stream],
-    class: u8,
     told: Result<Windows<Global>, WindowUnbound>,
 ) -> Result<ClassAnswer, BoundsFault>
-    requires class { class < CLASSES }
-    requires plan { schedule.now ≡ plan_asked change.now }
+    requires case { IsCase case.now }
     requires periodic { All IsPeriodic streams.now }
     requires some { 0 < length streams.now }
     ensures answer { IfOk result (λ a.
-        IsAnswerWith settings.now change.now streams.now class a (windows_of told)) }
+        IsAnswerWith case.now.settings.now case.now.change.now streams.now case.now.class a
+        (windows_of told)) }
     ensures known { IfOk result (λ a. windows_of told ≢ Err WindowFaults.Memory) }
     ensures memory { IfErr result (λ fault. fault ≡ Faults.Memory) }
 {
     match told {
         Ok(told) => {
             let reached = are_equal(streams);
-            let room = settings.port.room();
+            let room = case.settings.port.room();
             Ok(within_room(alloc, room, told.most, reached, told.bounds))
         }
         Err(WindowUnbound::Overloaded) => Ok(unbounded(
@@ -301,8 +295,8 @@ fn answer_with(
             Verdict::Overloaded { alone: false },
         )),
         Err(WindowUnbound::Stuck) => Ok(unbounded(alloc, Verdict::Unfit)),
-        Err(WindowUnbound::Long) => any_answer(alloc, settings, change, schedule, streams, class),
-        Err(WindowUnbound::Late) => any_answer(alloc, settings, change, schedule, streams, class),
+        Err(WindowUnbound::Long) => any_answer(alloc, case, streams),
+        Err(WindowUnbound::Late) => any_answer(alloc, case, streams),
         Err(WindowUnbound::Memory) => Err(BoundsFault::Memory),
     }
 }
@@ -311,103 +305,93 @@ fn answer_with(
 /// keeps it apart.
 fn window_answer(
     alloc: Global,
-    settings: &BoundsSettings,
-    change: &Change,
-    schedule: &Schedule,
+    case: &Case<'_>,
     streams: &[Stream],
-    class: u8,
 ) -> Result<ClassAnswer, BoundsFault>
-    requires class { class < CLASSES }
-    requires plan { schedule.now ≡ plan_asked change.now }
+    requires case { IsCase case.now }
     requires periodic { All IsPeriodic streams.now }
     requires some { 0 < length streams.now }
-    ensures answer { IfOk result (λ a. IsWindowAnswer settings.now change.now streams.now class a) }
+    ensures answer { IfOk result (λ a.
+        IsWindowAnswer case.now.settings.now case.now.change.now streams.now case.now.class a) }
     ensures memory { IfErr result (λ fault. fault ≡ Faults.Memory) }
 {
-    let sdu = most_sdu(settings, change, class);
+    let settings = case.settings;
+    let sdu = most_sdu(settings, case.change, case.class);
     let flows = jittered_flows_of(alloc, settings.port.rate(), sdu, streams)?;
-    let told = window_bounds(&alloc, schedule, class, flows.as_slice(), settings.frames);
-    answer_with(alloc, settings, change, schedule, streams, class, told)
+    let told = window_bounds(
+        &alloc,
+        case.schedule,
+        case.class,
+        flows.as_slice(),
+        settings.frames,
+    );
+    answer_with(alloc, case, streams, told)
 }
 
 /// The answer about a class with these streams, in a schedule that keeps it apart, where each frame may come anywhere in its
 /// window, and some may be missing: by windows, where all offsets are known.
 pub fn windows_answer(
     alloc: Global,
-    settings: &BoundsSettings,
-    change: &Change,
-    schedule: &Schedule,
+    case: &Case<'_>,
     streams: &[Stream],
-    class: u8,
 ) -> Result<ClassAnswer, BoundsFault>
-    requires class { class < CLASSES }
-    requires plan { schedule.now ≡ plan_asked change.now }
+    requires case { IsCase case.now }
     requires periodic { All IsPeriodic streams.now }
     requires some { 0 < length streams.now }
     ensures answer { IfOk result (λ a.
-        IsApartAnswer (has_any streams.now) true settings.now change.now streams.now class a) }
+        IsApartAnswer (has_any streams.now) true case.now.settings.now case.now.change.now
+        streams.now case.now.class a) }
     ensures memory { IfErr result (λ fault. fault ≡ Faults.Memory) }
 {
     if has_any(streams) {
-        any_answer(alloc, settings, change, schedule, streams, class)
+        any_answer(alloc, case, streams)
     } else {
-        window_answer(alloc, settings, change, schedule, streams, class)
+        window_answer(alloc, case, streams)
     }
 }
 
 /// The answer about a class with these streams, in a schedule that keeps it apart.
 pub fn kept_answer(
     alloc: Global,
-    settings: &BoundsSettings,
-    change: &Change,
-    schedule: &Schedule,
+    case: &Case<'_>,
     streams: &[Stream],
-    class: u8,
 ) -> Result<ClassAnswer, BoundsFault>
-    requires class { class < CLASSES }
-    requires plan { schedule.now ≡ plan_asked change.now }
+    requires case { IsCase case.now }
     requires periodic { All IsPeriodic streams.now }
     requires some { 0 < length streams.now }
     ensures answer { IfOk result
-        (λ a. IsApartAnswer (has_any streams.now)
-        (has_inexact streams.now) settings.now change.now streams.now class a) }
+        (λ a. IsApartAnswer (has_any streams.now) (has_inexact streams.now) case.now.settings.now case.now.change.now
+        streams.now case.now.class a) }
     ensures memory { IfErr result (λ fault. fault ≡ Faults.Memory) }
 {
     if has_any(streams) {
-        any_answer(alloc, settings, change, schedule, streams, class)
+        any_answer(alloc, case, streams)
     } else if has_inexact(streams) {
-        window_answer(alloc, settings, change, schedule, streams, class)
+        window_answer(alloc, case, streams)
     } else {
-        exact_answer(alloc, settings, schedule, streams, class)
+        exact_answer(alloc, case.settings, case.schedule, streams, case.class)
     }
 }
 
 /// The answer about a class with these streams, beside the others.
 pub fn own_answer(
     alloc: Global,
-    settings: &BoundsSettings,
-    change: &Change,
-    schedule: &Schedule,
-    beside: Beside<'_>,
+    case: &Case<'_>,
     streams: &[Stream],
-    class: u8,
 ) -> Result<ClassAnswer, BoundsFault>
-    requires class { class < CLASSES }
-    requires plan { schedule.now ≡ plan_asked change.now }
+    requires case { IsCase case.now }
     requires periodic { All IsPeriodic streams.now }
-    requires table { All IsPeriodic beside.table.now }
-    requires counted { All IsCounted beside.above.now }
     ensures answer { IfOk result
-        (λ a. IsOwnAnswer settings.now change.now beside.entry.table.now beside.entry.above.now
-        streams.now class a) }
+        (λ a. IsOwnAnswer case.now.settings.now case.now.change.now case.now.table.now
+        case.now.above.now streams.now case.now.class a) }
     ensures memory { IfErr result (λ fault. fault ≡ Faults.Memory) }
 {
     if streams.len() == 0 {
         return Ok(unbounded(alloc, Verdict::Idle));
     }
-    if schedule.keeps_apart(class) {
-        kept_answer(alloc, settings, change, schedule, streams, class)
+    if case.schedule.keeps_apart(case.class) {
+        kept_answer(alloc, case, streams)
     } else {
-        sharing_answer(alloc, settings, change, schedule, beside, streams, class)
+        sharing_answer(alloc, case, streams)
     }
 }

@@ -1,27 +1,21 @@
 //! What is told of the streams of a class beside their bounds, where it is asked.
 
 ghost use Rattle.std.specs.Prelude.{◌≡◌, ◌<◌, All, IfErr, IfOk, Some, ◌||◌, length, slice_get};
-ghost use Rattle.abstract_port.specs.AbstractPort.{plan_asked};
 ghost use Rattle.job.specs.declared.fault.Fault.TheVariants as Faults;
 ghost use Rattle.stream_bounds.specs.Answers.{AreAskedExtras, AreExtras, IsExtra};
+ghost use Rattle.stream_bounds.specs.Case.{IsCase};
 ghost use Rattle.stream_bounds.specs.Classes.{IsPeriodic};
-ghost use Rattle.stream_bounds.specs.Standing.{IsCounted};
 ghost use Rattle.stream_bounds.specs.Verdicts.{no_extra};
 ghost use Rattle.traffic.specs.declared.table.Stream.{Stream};
-ghost use Rattle.wire_time.specs.declared.TheConstants.{CLASSES};
 
+use crate::case::Case;
 use crate::class_answer::ClassAnswer;
 use crate::faults::BoundsFault;
-use crate::settings::BoundsSettings;
-use crate::shared::Beside;
 use crate::shares::asked_shares;
 use crate::slack::asked_slack;
-use abstract_port::Change;
-use gates::gate_list::Schedule;
 use script::Shares;
 use std::alloc::Global;
 use traffic::Stream;
-use wire_time::CLASSES;
 
 /// What is told of a stream beside its bounds, where it is asked.
 #[derive(Clone, Copy, Debug, PartialEq, Eq)]
@@ -47,62 +41,42 @@ impl Extra {
 /// What else is told of the stream at a place of a class, whose answer is `own`.
 fn extra_at(
     alloc: Global,
-    settings: &BoundsSettings,
-    change: &Change,
-    schedule: &Schedule,
-    beside: Beside<'_>,
+    case: &Case<'_>,
     streams: &[Stream],
-    class: u8,
     own: &ClassAnswer,
     place: usize,
 ) -> Result<Extra, BoundsFault>
-    requires class { class < CLASSES }
-    requires plan { schedule.now ≡ plan_asked change.now }
+    requires case { IsCase case.now }
     requires periodic { All IsPeriodic streams.now }
-    requires table { All IsPeriodic beside.table.now }
-    requires counted { All IsCounted beside.above.now }
     requires place { place < length streams.now }
     ensures extra { IfOk result
         (λ extra. (x : Stream) → slice_get streams.now place ≡ Some x →
-        IsExtra settings.now change.now beside.entry.table.now beside.entry.above.now streams.now
-        class own.now place x extra) }
+        IsExtra case.now.settings.now case.now.change.now case.now.table.now case.now.above.now
+        streams.now case.now.class own.now place x extra) }
     ensures memory { IfErr result (λ fault. fault ≡ Faults.Memory) }
 {
-    let slack = asked_slack(
-        alloc, settings, change, schedule, beside, streams, class, place,
-    )?;
-    let shares = asked_shares(
-        alloc, settings, change, schedule, beside, streams, class, own, place,
-    )?;
+    let slack = asked_slack(alloc, case, streams, place)?;
+    let shares = asked_shares(alloc, case, streams, own, place)?;
     Ok(Extra { slack, shares })
 }
 
 /// What else is told of each stream of a class.
 fn all_extras(
     alloc: Global,
-    settings: &BoundsSettings,
-    change: &Change,
-    schedule: &Schedule,
-    beside: Beside<'_>,
+    case: &Case<'_>,
     streams: &[Stream],
-    class: u8,
     own: &ClassAnswer,
 ) -> Result<Vec<Extra, Global>, BoundsFault>
-    requires class { class < CLASSES }
-    requires plan { schedule.now ≡ plan_asked change.now }
+    requires case { IsCase case.now }
     requires periodic { All IsPeriodic streams.now }
-    requires table { All IsPeriodic beside.table.now }
-    requires counted { All IsCounted beside.above.now }
     ensures extras { IfOk result
-        (λ extras. AreExtras settings.now change.now beside.entry.table.now beside.entry.above.now
-        streams.now class own.now extras.items) }
+        (λ extras. AreExtras case.now.settings.now case.now.change.now case.now.table.now
+        case.now.above.now streams.now case.now.class own.now extras.items) }
     ensures memory { IfErr result (λ fault. fault ≡ Faults.Memory) }
 {
     let mut extras = Vec::new(alloc);
     for place in 0..streams.len() {
-        let extra = extra_at(
-            alloc, settings, change, schedule, beside, streams, class, own, place,
-        )?;
+        let extra = extra_at(alloc, case, streams, own, place)?;
         match extras.push(extra) {
             Ok(()) => {}
             Err(_) => return Err(BoundsFault::Memory),
@@ -114,30 +88,20 @@ fn all_extras(
 /// What is told of each stream of a class beside its bounds, by the answer about the class; nothing where none is asked.
 pub fn extras_of(
     alloc: Global,
-    settings: &BoundsSettings,
-    change: &Change,
-    schedule: &Schedule,
-    beside: Beside<'_>,
+    case: &Case<'_>,
     streams: &[Stream],
-    class: u8,
     own: &ClassAnswer,
 ) -> Result<Vec<Extra, Global>, BoundsFault>
-    requires class { class < CLASSES }
-    requires plan { schedule.now ≡ plan_asked change.now }
+    requires case { IsCase case.now }
     requires periodic { All IsPeriodic streams.now }
-    requires table { All IsPeriodic beside.table.now }
-    requires counted { All IsCounted beside.above.now }
     ensures extras { IfOk result
-        (λ extras. AreAskedExtras
-        (settings.now.slack
-        || settings.now.why) settings.now change.now beside.entry.table.now beside.entry.above.now
-        streams.now class own.now extras.items) }
+        (λ extras. AreAskedExtras (case.now.settings.now.slack || case.now.settings.now.why)
+        case.now.settings.now case.now.change.now case.now.table.now case.now.above.now
+        streams.now case.now.class own.now extras.items) }
     ensures memory { IfErr result (λ fault. fault ≡ Faults.Memory) }
 {
-    if settings.slack || settings.why {
-        all_extras(
-            alloc, settings, change, schedule, beside, streams, class, own,
-        )
+    if case.settings.slack || case.settings.why {
+        all_extras(alloc, case, streams, own)
     } else {
         Ok(Vec::new(alloc))
     }

@@ -2,15 +2,17 @@
 
 ghost use Rattle.std.specs.Prelude.{◌≡◌, ◌<◌, All, IfSome, length};
 ghost use Rattle.abstract_port.specs.AbstractPort.{plan_asked};
+ghost use Rattle.stream_bounds.specs.Case.{IsCase};
 ghost use Rattle.stream_bounds.specs.Classes.{IsPeriodic};
 ghost use Rattle.stream_bounds.specs.Standing.{IsCounted};
 ghost use Rattle.wire_time.specs.declared.TheConstants.{CLASSES};
 
 use crate::answers::Answers;
+use crate::case::Case;
 use crate::class_answer::{ClassAnswer, kept_answer};
 use crate::classes::{has_inexact, jittered_flows_of, most_sdu, streams_of};
 use crate::settings::BoundsSettings;
-use crate::shared::{Beside, widest};
+use crate::shared::widest;
 use crate::shares::{delay_at, greatest_of, shares_where};
 use crate::standing::{Standing, may_send, standing_of};
 use crate::stream_lines::needs_of;
@@ -52,36 +54,29 @@ fn with_offsets(alloc: Global, streams: &[Stream]) -> Option<Vec<Stream, Global>
 }
 
 /// Whether the windows of a class with these streams come again before too many frames have come.
-fn come_again(
-    alloc: Global,
-    settings: &BoundsSettings,
-    change: &Change,
-    schedule: &Schedule,
-    streams: &[Stream],
-    class: u8,
-) -> bool
-    requires class { class < CLASSES }
+fn come_again(alloc: Global, case: &Case<'_>, streams: &[Stream]) -> bool
+    requires case { IsCase case.now }
     requires periodic { All IsPeriodic streams.now }
     requires some { 0 < length streams.now }
 {
-    let sdu = most_sdu(settings, change, class);
+    let settings = case.settings;
+    let sdu = most_sdu(settings, case.change, case.class);
     let Ok(flows) = jittered_flows_of(alloc, settings.port.rate(), sdu, streams) else {
         return true;
     };
-    let told = window_bounds(&alloc, schedule, class, flows.as_slice(), settings.frames);
+    let told = window_bounds(
+        &alloc,
+        case.schedule,
+        case.class,
+        flows.as_slice(),
+        settings.frames,
+    );
     !matches!(told, Err(Unbound::Long | Unbound::Late))
 }
 
 /// By what the bounds of a class with these streams are found.
-fn basis_of(
-    alloc: Global,
-    settings: &BoundsSettings,
-    change: &Change,
-    schedule: &Schedule,
-    streams: &[Stream],
-    class: u8,
-) -> Basis
-    requires class { class < CLASSES }
+fn basis_of(alloc: Global, case: &Case<'_>, streams: &[Stream]) -> Basis
+    requires case { IsCase case.now }
     requires periodic { All IsPeriodic streams.now }
     requires some { 0 < length streams.now }
 {
@@ -89,7 +84,7 @@ fn basis_of(
         Basis::AnyMoments(id)
     } else if !has_inexact(streams) {
         Basis::ExactMoments
-    } else if come_again(alloc, settings, change, schedule, streams, class) {
+    } else if come_again(alloc, case, streams) {
         Basis::Windows
     } else {
         Basis::ManyFrames
@@ -109,17 +104,8 @@ fn has_bounds(verdict: Verdict) -> bool {
 
 /// Tells who watches when the frames of the streams with offsets would end, if no stream of their class came at any
 /// moments.
-fn tell_without<H: Watch>(
-    alloc: Global,
-    settings: &BoundsSettings,
-    change: &Change,
-    schedule: &Schedule,
-    streams: &[Stream],
-    class: u8,
-    watch: &mut H,
-)
-    requires class { class < CLASSES }
-    requires plan { schedule.now ≡ plan_asked change.now }
+fn tell_without<H: Watch>(alloc: Global, case: &Case<'_>, streams: &[Stream], watch: &mut H)
+    requires case { IsCase case.now }
     requires periodic { All IsPeriodic streams.now }
 {
     let Some(known) = with_offsets(alloc, streams) else {
@@ -129,57 +115,39 @@ fn tell_without<H: Watch>(
     if known.len() == 0 {
         return;
     }
-    let Ok(answer) = kept_answer(alloc, settings, change, schedule, known, class) else {
+    let Ok(answer) = kept_answer(alloc, case, known) else {
         return;
     };
     for place in 0..known.len() {
         let Some(bound) = answer.bound(place) else {
             return;
         };
-        let needs = needs_of(settings.port.rate(), &known[place]);
+        let needs = needs_of(case.settings.port.rate(), &known[place]);
         watch.ends_without(known[place].first_id, plus(bound.greatest, needs.longest));
     }
 }
 
 /// For how long a frame of a lower class may be in the way of a class that shares windows with it, in picoseconds.
-fn blocked_by(
-    alloc: Global,
-    settings: &BoundsSettings,
-    change: &Change,
-    schedule: &Schedule,
-    table: &[Stream],
-    class: u8,
-    other: u8,
-) -> u128
-    requires class { class < CLASSES }
+fn blocked_by(alloc: Global, case: &Case<'_>, other: u8) -> u128
+    requires case { IsCase case.now }
     requires other { other < CLASSES }
-    requires periodic { All IsPeriodic table.now }
 {
-    if other >= class || !shares_windows(schedule, class, other) {
+    if other >= case.class || !shares_windows(case.schedule, case.class, other) {
         return 0;
     }
-    let Ok(its) = streams_of(alloc, settings, change, table, other) else {
+    let Ok(its) = streams_of(alloc, case.settings, case.change, case.table, other) else {
         return 0;
     };
-    if its.len() > 0 || may_send(settings, change, other) {
-        widest(settings, change, other)
+    if its.len() > 0 || may_send(case.settings, case.change, other) {
+        widest(case.settings, case.change, other)
     } else {
         0
     }
 }
 
 /// With which classes a class shares windows.
-fn sharers_of(
-    alloc: Global,
-    settings: &BoundsSettings,
-    change: &Change,
-    schedule: &Schedule,
-    table: &[Stream],
-    class: u8,
-    verdict: Verdict,
-) -> Sharers
-    requires class { class < CLASSES }
-    requires periodic { All IsPeriodic table.now }
+fn sharers_of(alloc: Global, case: &Case<'_>, verdict: Verdict) -> Sharers
+    requires { IsCase case.now }
 {
     let mut sharers = Sharers {
         classes: [false; CLASSES],
@@ -189,10 +157,10 @@ fn sharers_of(
         longest: None,
     };
     for other in 0..CLASSES as u8 {
-        if other != class && shares_windows(schedule, class, other) {
+        if other != case.class && shares_windows(case.schedule, case.class, other) {
             sharers.classes[other as usize] = true;
         }
-        let blocking = blocked_by(alloc, settings, change, schedule, table, class, other);
+        let blocking = blocked_by(alloc, case, other);
         if sharers.blocking < blocking {
             sharers.blocking = blocking;
             sharers.blockers = [false; CLASSES];
@@ -231,20 +199,22 @@ fn standings_above(
 }
 
 /// The stream that waits the longest of those of a class, and how long.
-fn longest_of(
-    settings: &BoundsSettings,
-    change: &Change,
-    own: &[Stream],
-    class: u8,
-    answer: &ClassAnswer,
-) -> Option<(Stream, u128)>
+fn longest_of(case: &Case<'_>, own: &[Stream], answer: &ClassAnswer) -> Option<(Stream, u128)>
     requires { All IsPeriodic own.now }
     ensures { IfSome result (λ longest. IsPeriodic longest.0) }
 {
     let mut longest: Option<(Stream, u128)> = None;
     let mut place: usize = 0;
     for stream in own {
-        if let Some(wait) = greatest_of(delay_at(settings, change, stream, class, answer, place)) {
+        let delay = delay_at(
+            case.settings,
+            case.change,
+            stream,
+            case.class,
+            answer,
+            place,
+        );
+        if let Some(wait) = greatest_of(delay) {
             match longest {
                 Some((_, most)) if wait <= most => {}
                 _ => longest = Some((*stream, wait)),
@@ -258,36 +228,15 @@ fn longest_of(
 /// What the longest wait of a class with these streams is made of, and the first id of the stream that waits so long.
 fn longest_wait(
     alloc: Global,
-    settings: &BoundsSettings,
-    change: &Change,
-    schedule: &Schedule,
-    table: &[Stream],
-    answers: &Answers,
+    case: &Case<'_>,
     own: &[Stream],
-    class: u8,
+    answer: &ClassAnswer,
 ) -> Option<(u64, Shares)>
-    requires class { class < CLASSES }
-    requires plan { schedule.now ≡ plan_asked change.now }
-    requires periodic { All IsPeriodic table.now }
+    requires case { IsCase case.now }
     requires own { All IsPeriodic own.now }
 {
-    let above = standings_above(alloc, settings, change, table, answers, class)?;
-    let beside = Beside {
-        table,
-        above: above.as_slice(),
-    };
-    let (stream, wait) = longest_of(settings, change, own, class, answers.of(class))?;
-    let shares = shares_where(
-        alloc,
-        settings,
-        change,
-        schedule,
-        beside,
-        class,
-        &stream,
-        Some(wait),
-    );
-    match shares {
+    let (stream, wait) = longest_of(case, own, answer)?;
+    match shares_where(alloc, case, &stream, Some(wait)) {
         Ok(Some(shares)) => Some((stream.first_id, shares)),
         _ => None,
     }
@@ -296,51 +245,32 @@ fn longest_wait(
 /// Tells who watches with which classes a class with these streams shares windows.
 fn tell_sharers<H: Watch>(
     alloc: Global,
-    settings: &BoundsSettings,
-    change: &Change,
-    schedule: &Schedule,
-    streams: &[Stream],
-    answers: &Answers,
+    case: &Case<'_>,
     own: &[Stream],
-    class: u8,
+    answer: &ClassAnswer,
     number: u32,
     watch: &mut H,
 )
-    requires class { class < CLASSES }
-    requires plan { schedule.now ≡ plan_asked change.now }
-    requires periodic { All IsPeriodic streams.now }
+    requires case { IsCase case.now }
     requires own { All IsPeriodic own.now }
 {
-    let verdict = answers.verdict(class);
     let sharers = Sharers {
-        longest: longest_wait(
-            alloc, settings, change, schedule, streams, answers, own, class,
-        ),
-        ..sharers_of(alloc, settings, change, schedule, streams, class, verdict)
+        longest: longest_wait(alloc, case, own, answer),
+        ..sharers_of(alloc, case, answer.verdict())
     };
-    watch.class_judged(number, class, change, Basis::Shared(sharers));
+    watch.class_judged(number, case.class, case.change, Basis::Shared(sharers));
 }
 
 /// Tells who watches by what the bounds of a class with these streams are found, which is kept apart.
-fn tell_basis<H: Watch>(
-    alloc: Global,
-    settings: &BoundsSettings,
-    change: &Change,
-    schedule: &Schedule,
-    own: &[Stream],
-    class: u8,
-    number: u32,
-    watch: &mut H,
-)
-    requires class { class < CLASSES }
-    requires plan { schedule.now ≡ plan_asked change.now }
+fn tell_basis<H: Watch>(alloc: Global, case: &Case<'_>, own: &[Stream], number: u32, watch: &mut H)
+    requires case { IsCase case.now }
     requires own { All IsPeriodic own.now }
     requires some { 0 < length own.now }
 {
-    let basis = basis_of(alloc, settings, change, schedule, own, class);
-    watch.class_judged(number, class, change, basis);
+    let basis = basis_of(alloc, case, own);
+    watch.class_judged(number, case.class, case.change, basis);
     if let Basis::AnyMoments(_) = basis {
-        tell_without(alloc, settings, change, schedule, own, class, watch);
+        tell_without(alloc, case, own, watch);
     }
 }
 
@@ -348,32 +278,24 @@ fn tell_basis<H: Watch>(
 /// found, if it has some.
 fn tell_class<H: Watch>(
     alloc: Global,
-    settings: &BoundsSettings,
-    change: &Change,
-    schedule: &Schedule,
-    streams: &[Stream],
-    answers: &Answers,
-    class: u8,
+    case: &Case<'_>,
+    answer: &ClassAnswer,
     number: u32,
     watch: &mut H,
 )
-    requires class { class < CLASSES }
-    requires plan { schedule.now ≡ plan_asked change.now }
-    requires periodic { All IsPeriodic streams.now }
+    requires { IsCase case.now }
 {
-    let Ok(own) = streams_of(alloc, settings, change, streams, class) else {
+    let Ok(own) = streams_of(alloc, case.settings, case.change, case.table, case.class) else {
         return;
     };
     let own = own.as_slice();
     if own.len() == 0 {
         return;
     }
-    if !schedule.keeps_apart(class) {
-        tell_sharers(
-            alloc, settings, change, schedule, streams, answers, own, class, number, watch,
-        );
-    } else if has_bounds(answers.verdict(class)) {
-        tell_basis(alloc, settings, change, schedule, own, class, number, watch);
+    if !case.schedule.keeps_apart(case.class) {
+        tell_sharers(alloc, case, own, answer, number, watch);
+    } else if has_bounds(answer.verdict()) {
+        tell_basis(alloc, case, own, number, watch);
     }
 }
 
@@ -393,8 +315,17 @@ pub(crate) fn tell_bases<H: Watch>(
     requires periodic { All IsPeriodic streams.now }
 {
     for class in 0..CLASSES as u8 {
-        tell_class(
-            alloc, settings, change, schedule, streams, answers, class, number, watch,
-        );
+        let Some(above) = standings_above(alloc, settings, change, streams, answers, class) else {
+            return;
+        };
+        let case = Case {
+            settings,
+            change,
+            schedule,
+            table: streams,
+            above: above.as_slice(),
+            class,
+        };
+        tell_class(alloc, &case, answers.of(class), number, watch);
     }
 }

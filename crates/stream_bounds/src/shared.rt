@@ -2,12 +2,12 @@
 
 ghost use Rattle.std.specs.Prelude.{◌≡◌, ◌≢◌, ◌<◌, ◌^◌, ◌↔◌, All, Err, IfErr, IfOk, IsTrue, List, length, nat_le};
 ghost use Rattle.std.specs.List.{list_any};
-ghost use Rattle.abstract_port.specs.AbstractPort.{plan_asked};
 ghost use Rattle.burst_bounds.specs.Talkers.{IsTalker, longest_need};
 ghost use Rattle.job.specs.declared.fault.Fault.TheVariants as Faults;
 ghost use Rattle.shared_bounds.specs.Sharing.{Share};
 ghost use Rattle.shared_bounds.specs.Traffic.{IsTraffic};
 ghost use Rattle.shared_bounds.specs.declared.Unbound.TheVariants as SharedFaults;
+ghost use Rattle.stream_bounds.specs.Case.{IsCase};
 ghost use Rattle.stream_bounds.specs.Classes.{IsPeriodic, IsShort};
 ghost use Rattle.stream_bounds.specs.Shared.{AreBeside, AreOpen, AreTalkersFrom, IsBesideAt, IsHighest, IsInTheWay, bounds_beside, bounds_of_standing, is_open, is_unbounded, need_beside, standing_in, talkers_beside, widest};
 ghost use Rattle.stream_bounds.specs.Standing.{IsCounted};
@@ -15,6 +15,7 @@ ghost use Rattle.stream_bounds.specs.Verdicts.{IsBoundedAnswer, IsSharedAnswer, 
 ghost use Rattle.traffic.specs.declared.table.Stream.{Stream};
 ghost use Rattle.wire_time.specs.declared.TheConstants.{CLASSES};
 
+use crate::case::Case;
 use crate::class_answer::{ClassAnswer, unbounded};
 use crate::classes::{most_sdu, ranges_of, streams_of, talkers_of};
 use crate::faults::BoundsFault;
@@ -29,15 +30,6 @@ use shared_bounds::{ClassTraffic, Unbound, shared_bounds};
 use std::alloc::Global;
 use traffic::Stream;
 use wire_time::{CLASSES, occupancy};
-
-/// What is known beside the streams of a class.
-#[derive(Clone, Copy)]
-pub struct Beside<'a> {
-    /// The streams of all classes.
-    pub table: &'a [Stream],
-    /// How the classes above it stand, from the next one up.
-    pub above: &'a [Standing],
-}
 
 /// How a class above one stands.
 fn standing_in(above: &[Standing], class: u8, other: u8) -> Standing
@@ -118,56 +110,48 @@ fn bounds_of(standing: Standing) -> Bounds
 /// The talkers of a class, where one with these streams is judged.
 fn talkers_beside(
     alloc: Global,
-    settings: &BoundsSettings,
-    change: &Change,
-    table: &[Stream],
+    case: &Case<'_>,
     streams: &[Stream],
-    class: u8,
     other: u8,
 ) -> Result<Vec<Talker, Global>, BoundsFault>
+    requires case { IsCase case.now }
     requires other { other < CLASSES }
-    requires table { All IsPeriodic table.now }
     requires periodic { All IsPeriodic streams.now }
-    ensures talkers { IfOk result (λ talkers.
-        talkers.items ≡ talkers_beside settings.now change.now table.now streams.now class other) }
+    ensures talkers { IfOk result (λ talkers. talkers.items
+        ≡ talkers_beside case.now.settings.now case.now.change.now case.now.table.now streams.now
+        case.now.class other) }
     ensures fit { IfOk result (λ talkers. All IsTalker talkers.items) }
     ensures short { IfOk result (λ talkers. All IsShort talkers.items) }
     ensures memory { IfErr result (λ fault. fault ≡ Faults.Memory) }
 {
-    let sdu = most_sdu(settings, change, other);
-    let rate = settings.port.rate();
-    if other == class {
+    let sdu = most_sdu(case.settings, case.change, other);
+    let rate = case.settings.port.rate();
+    if other == case.class {
         return talkers_of(alloc, rate, sdu, streams);
     }
-    let its = streams_of(alloc, settings, change, table, other)?;
+    let its = streams_of(alloc, case.settings, case.change, case.table, other)?;
     talkers_of(alloc, rate, sdu, its.as_slice())
 }
 
 /// What is known of a class with these talkers, where one is judged.
-fn traffic_of<'a>(
-    settings: &BoundsSettings,
-    change: &Change,
-    above: &[Standing],
-    class: u8,
-    other: u8,
-    talkers: &'a [Talker],
-) -> ClassTraffic<'a>
+fn traffic_of<'a>(case: &Case<'_>, other: u8, talkers: &'a [Talker]) -> ClassTraffic<'a>
+    requires case { IsCase case.now }
     requires other { other < CLASSES }
-    requires counted { All IsCounted above.now }
     requires fit { All IsTalker talkers.now }
     requires short { All IsShort talkers.now }
-    ensures need { result.need ≡ need_beside settings.now change.now class other talkers.now }
+    ensures need { result.need ≡ need_beside case.now.settings.now case.now.change.now
+        case.now.class other talkers.now }
     ensures talkers { result.talkers.now ≡ talkers.now }
-    ensures bounds { result.bounds ≡ bounds_beside above.now class other }
+    ensures bounds { result.bounds ≡ bounds_beside case.now.above.now case.now.class other }
     ensures fits { IsTraffic result }
 {
-    let bounds = if class < other {
-        bounds_of(standing_in(above, class, other))
+    let bounds = if case.class < other {
+        bounds_of(standing_in(case.above, case.class, other))
     } else {
         Bounds { wait: 0, most: 0 }
     };
     ClassTraffic {
-        need: need_beside(settings, change, class, other, talkers),
+        need: need_beside(case.settings, case.change, case.class, other, talkers),
         talkers,
         bounds,
     }
@@ -176,57 +160,54 @@ fn traffic_of<'a>(
 /// The talkers of all classes, where one with these streams is judged.
 fn all_talkers(
     alloc: Global,
-    settings: &BoundsSettings,
-    change: &Change,
-    table: &[Stream],
+    case: &Case<'_>,
     streams: &[Stream],
-    class: u8,
 ) -> Result<[Vec<Talker, Global>; CLASSES], BoundsFault>
-    requires table { All IsPeriodic table.now }
+    requires case { IsCase case.now }
     requires periodic { All IsPeriodic streams.now }
     ensures talkers { IfOk result
-        (AreTalkersFrom settings.now change.now table.now streams.now class 0) }
+        (AreTalkersFrom case.now.settings.now case.now.change.now case.now.table.now streams.now
+        case.now.class 0) }
     ensures fit { IfOk result (All (λ talkers. All IsTalker talkers.items)) }
     ensures short { IfOk result (All (λ talkers. All IsShort talkers.items)) }
     ensures memory { IfErr result (λ fault. fault ≡ Faults.Memory) }
 {
     Ok([
-        talkers_beside(alloc, settings, change, table, streams, class, 0)?,
-        talkers_beside(alloc, settings, change, table, streams, class, 1)?,
-        talkers_beside(alloc, settings, change, table, streams, class, 2)?,
-        talkers_beside(alloc, settings, change, table, streams, class, 3)?,
-        talkers_beside(alloc, settings, change, table, streams, class, 4)?,
-        talkers_beside(alloc, settings, change, table, streams, class, 5)?,
-        talkers_beside(alloc, settings, change, table, streams, class, 6)?,
-        talkers_beside(alloc, settings, change, table, streams, class, 7)?,
+        talkers_beside(alloc, case, streams, 0)?,
+        talkers_beside(alloc, case, streams, 1)?,
+        talkers_beside(alloc, case, streams, 2)?,
+        talkers_beside(alloc, case, streams, 3)?,
+        talkers_beside(alloc, case, streams, 4)?,
+        talkers_beside(alloc, case, streams, 5)?,
+        talkers_beside(alloc, case, streams, 6)?,
+        talkers_beside(alloc, case, streams, 7)?,
     ])
 }
 
 /// What is known of all classes with these talkers, where one is judged.
 fn all_traffic<'a>(
-    settings: &BoundsSettings,
-    change: &Change,
-    above: &[Standing],
-    class: u8,
+    case: &Case<'_>,
     talkers: &'a [Vec<Talker, Global>; CLASSES],
 ) -> [ClassTraffic<'a>; CLASSES]
-    requires counted { All IsCounted above.now }
+    requires case { IsCase case.now }
     requires fit { All (λ talkers. All IsTalker talkers.items) talkers.now }
     requires short { All (λ talkers. All IsShort talkers.items) talkers.now }
     ensures beside { (table streams : List Stream)
-        → AreTalkersFrom settings.now change.now table streams class 0 talkers.now
-        → AreBeside settings.now change.now table above.now streams class result }
+        → AreTalkersFrom case.now.settings.now case.now.change.now table streams case.now.class 0
+        talkers.now
+        → AreBeside case.now.settings.now case.now.change.now table case.now.above.now streams
+        case.now.class result }
     ensures fit { All IsTraffic result }
 {
     [
-        traffic_of(settings, change, above, class, 0, talkers[0].as_slice()),
-        traffic_of(settings, change, above, class, 1, talkers[1].as_slice()),
-        traffic_of(settings, change, above, class, 2, talkers[2].as_slice()),
-        traffic_of(settings, change, above, class, 3, talkers[3].as_slice()),
-        traffic_of(settings, change, above, class, 4, talkers[4].as_slice()),
-        traffic_of(settings, change, above, class, 5, talkers[5].as_slice()),
-        traffic_of(settings, change, above, class, 6, talkers[6].as_slice()),
-        traffic_of(settings, change, above, class, 7, talkers[7].as_slice()),
+        traffic_of(case, 0, talkers[0].as_slice()),
+        traffic_of(case, 1, talkers[1].as_slice()),
+        traffic_of(case, 2, talkers[2].as_slice()),
+        traffic_of(case, 3, talkers[3].as_slice()),
+        traffic_of(case, 4, talkers[4].as_slice()),
+        traffic_of(case, 5, talkers[5].as_slice()),
+        traffic_of(case, 6, talkers[6].as_slice()),
+        traffic_of(case, 7, talkers[7].as_slice()),
     ]
 }
 
@@ -354,58 +335,44 @@ pub fn is_any(classes: &[bool; CLASSES]) -> bool
 /// nothing.
 fn bounded_answer(
     alloc: Global,
-    settings: &BoundsSettings,
-    change: &Change,
-    schedule: &Schedule,
-    beside: Beside<'_>,
+    case: &Case<'_>,
     streams: &[Stream],
-    class: u8,
 ) -> Result<ClassAnswer, BoundsFault>
-    requires class { class < CLASSES }
-    requires plan { schedule.now ≡ plan_asked change.now }
-    requires table { All IsPeriodic beside.table.now }
-    requires counted { All IsCounted beside.above.now }
+    requires case { IsCase case.now }
     requires periodic { All IsPeriodic streams.now }
     requires some { 0 < length streams.now }
     ensures answer { IfOk result
-        (λ a. IsBoundedAnswer settings.now change.now beside.entry.table.now beside.entry.above.now
-        streams.now class a) }
+        (λ a. IsBoundedAnswer case.now.settings.now case.now.change.now case.now.table.now
+        case.now.above.now streams.now case.now.class a) }
     ensures memory { IfErr result (λ fault. fault ≡ Faults.Memory) }
 {
-    let talkers = all_talkers(alloc, settings, change, beside.table, streams, class)?;
-    let traffic = all_traffic(settings, change, beside.above, class, &talkers);
-    let limit = settings.frames.min(u64::from(u32::MAX)) as u32;
-    let told = shared_bounds(&alloc, schedule, class, &traffic, limit);
-    shared_answer(alloc, settings.port.room(), streams, told)
+    let talkers = all_talkers(alloc, case, streams)?;
+    let traffic = all_traffic(case, &talkers);
+    let limit = case.settings.frames.min(u64::from(u32::MAX)) as u32;
+    let told = shared_bounds(&alloc, case.schedule, case.class, &traffic, limit);
+    shared_answer(alloc, case.settings.port.room(), streams, told)
 }
 
 /// The answer about a class with these streams, in a schedule that doesn't keep it apart.
 pub fn sharing_answer(
     alloc: Global,
-    settings: &BoundsSettings,
-    change: &Change,
-    schedule: &Schedule,
-    beside: Beside<'_>,
+    case: &Case<'_>,
     streams: &[Stream],
-    class: u8,
 ) -> Result<ClassAnswer, BoundsFault>
-    requires class { class < CLASSES }
-    requires plan { schedule.now ≡ plan_asked change.now }
-    requires table { All IsPeriodic beside.table.now }
-    requires counted { All IsCounted beside.above.now }
+    requires case { IsCase case.now }
     requires periodic { All IsPeriodic streams.now }
     requires some { 0 < length streams.now }
     ensures answer { IfOk result
-        (λ a. IsSharedAnswer settings.now change.now beside.entry.table.now beside.entry.above.now
-        streams.now class a) }
+        (λ a. IsSharedAnswer case.now.settings.now case.now.change.now case.now.table.now
+        case.now.above.now streams.now case.now.class a) }
     ensures memory { IfErr result (λ fault. fault ≡ Faults.Memory) }
 {
-    let open = open_above(schedule, beside.above, class);
+    let open = open_above(case.schedule, case.above, case.class);
     if is_any(&open) {
         return Ok(unbounded(alloc, Verdict::Open { to: open }));
     }
-    match unbounded_above(schedule, beside.above, class) {
+    match unbounded_above(case.schedule, case.above, case.class) {
         Some(other) => Ok(unbounded(alloc, Verdict::Behind(other))),
-        None => bounded_answer(alloc, settings, change, schedule, beside, streams, class),
+        None => bounded_answer(alloc, case, streams),
     }
 }

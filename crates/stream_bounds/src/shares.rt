@@ -1,26 +1,24 @@
 //! What the greatest wait of a stream is made of: by what it would be if less was sent.
 
-ghost use Rattle.std.specs.Prelude.{◌≡◌, ◌<◌, ◌≤◌, All, IfErr, IfOk, Some, length, slice_get};
-ghost use Rattle.abstract_port.specs.AbstractPort.{plan_asked};
+ghost use Rattle.std.specs.Prelude.{◌≡◌, ◌<◌, ◌≤◌, [], All, IfErr, IfOk, Some, length, slice_get};
 ghost use Rattle.job.specs.declared.fault.Fault.TheVariants as Faults;
 ghost use Rattle.stream_bounds.specs.Answers.{AreAskedShares, AreSharesOf, IsDivided, IsWaitAlone, delay_at, greatest_of, is_none_above, none_above, none_sends, shares_of, up_to};
+ghost use Rattle.stream_bounds.specs.Case.{IsCase};
 ghost use Rattle.stream_bounds.specs.Classes.{IsPeriodic};
-ghost use Rattle.stream_bounds.specs.Standing.{IsCounted};
 ghost use Rattle.traffic.specs.declared.table.Stream.{Stream};
 ghost use Rattle.wire_time.specs.declared.TheConstants.{CLASSES};
 
+use crate::case::Case;
 use crate::class_answer::{ClassAnswer, own_answer};
 use crate::classes::dropped_of;
 use crate::faults::BoundsFault;
 use crate::premise_lines::is_silent;
 use crate::settings::BoundsSettings;
-use crate::shared::Beside;
 use crate::slack::stream_at;
 use crate::stream_lines::unless_dropped;
 use crate::verdicts::{Delay, delay_by};
 use abstract_port::Change;
 use delay_bounds::Bound;
-use gates::gate_list::Schedule;
 use script::Shares;
 use std::alloc::Global;
 use traffic::Stream;
@@ -105,28 +103,17 @@ fn none_above(
 }
 
 /// The greatest wait of a stream if its class had no other, in picoseconds.
-fn wait_alone(
-    alloc: Global,
-    settings: &BoundsSettings,
-    change: &Change,
-    schedule: &Schedule,
-    beside: Beside<'_>,
-    class: u8,
-    stream: &Stream,
-) -> Result<Option<u128>, BoundsFault>
-    requires class { class < CLASSES }
-    requires plan { schedule.now ≡ plan_asked change.now }
+fn wait_alone(alloc: Global, case: &Case<'_>, stream: &Stream) -> Result<Option<u128>, BoundsFault>
+    requires case { IsCase case.now }
     requires periodic { IsPeriodic stream.now }
-    requires table { All IsPeriodic beside.table.now }
-    requires counted { All IsCounted beside.above.now }
     ensures wait { IfOk result
-        (λ wait. IsWaitAlone settings.now change.now beside.entry.table.now beside.entry.above.now
-        class stream.now wait) }
+        (λ wait. IsWaitAlone case.now.settings.now case.now.change.now case.now.table.now
+        case.now.above.now case.now.class stream.now wait) }
     ensures memory { IfErr result (λ fault. fault ≡ Faults.Memory) }
 {
     let own = [*stream];
-    let answer = own_answer(alloc, settings, change, schedule, beside, &own, class)?;
-    let delay = delay_at(settings, change, stream, class, &answer, 0);
+    let answer = own_answer(alloc, case, &own)?;
+    let delay = delay_at(case.settings, case.change, stream, case.class, &answer, 0);
     Ok(greatest_of(delay))
 }
 
@@ -156,36 +143,47 @@ fn shares_of(gates: u128, blocked: u128, behind: u128, whole: u128) -> Shares
     }
 }
 
+/// The greatest wait of a stream by these settings, if no class had another, in picoseconds.
+fn wait_without(
+    alloc: Global,
+    case: &Case<'_>,
+    settings: &BoundsSettings,
+    stream: &Stream,
+) -> Result<Option<u128>, BoundsFault>
+    requires case { IsCase case.now }
+    requires periodic { IsPeriodic stream.now }
+    ensures wait { IfOk result (λ wait.
+        IsWaitAlone settings.now case.now.change.now [] [] case.now.class stream.now wait) }
+    ensures memory { IfErr result (λ fault. fault ≡ Faults.Memory) }
+{
+    let case = Case {
+        settings,
+        table: &[],
+        above: &[],
+        ..*case
+    };
+    wait_alone(alloc, &case, stream)
+}
+
 /// What the greatest wait of a stream is made of.
 fn divided(
     alloc: Global,
-    settings: &BoundsSettings,
-    change: &Change,
-    schedule: &Schedule,
-    beside: Beside<'_>,
-    class: u8,
+    case: &Case<'_>,
     stream: &Stream,
     whole: u128,
 ) -> Result<Option<Shares>, BoundsFault>
-    requires class { class < CLASSES }
-    requires plan { schedule.now ≡ plan_asked change.now }
+    requires case { IsCase case.now }
     requires periodic { IsPeriodic stream.now }
-    requires table { All IsPeriodic beside.table.now }
-    requires counted { All IsCounted beside.above.now }
     ensures shares { IfOk result
-        (λ shares. IsDivided settings.now change.now beside.entry.table.now beside.entry.above.now
-        class stream.now whole shares) }
+        (λ shares. IsDivided case.now.settings.now case.now.change.now case.now.table.now
+        case.now.above.now case.now.class stream.now whole shares) }
     ensures memory { IfErr result (λ fault. fault ≡ Faults.Memory) }
 {
-    let nothing = Beside {
-        table: &[],
-        above: &[],
-    };
-    let alone = none_sends(settings);
-    let gates = wait_alone(alloc, &alone, change, schedule, nothing, class, stream)?;
-    let below = none_above(settings, change, beside.table, class);
-    let blocked = wait_alone(alloc, &below, change, schedule, nothing, class, stream)?;
-    let behind = wait_alone(alloc, settings, change, schedule, beside, class, stream)?;
+    let alone = none_sends(case.settings);
+    let gates = wait_without(alloc, case, &alone, stream)?;
+    let below = none_above(case.settings, case.change, case.table, case.class);
+    let blocked = wait_without(alloc, case, &below, stream)?;
+    let behind = wait_alone(alloc, case, stream)?;
     Ok(Some(shares_of(
         up_to(whole, gates),
         up_to(whole, blocked),
@@ -197,28 +195,19 @@ fn divided(
 /// What a greatest wait of a stream is made of, if it has one.
 pub fn shares_where(
     alloc: Global,
-    settings: &BoundsSettings,
-    change: &Change,
-    schedule: &Schedule,
-    beside: Beside<'_>,
-    class: u8,
+    case: &Case<'_>,
     stream: &Stream,
     whole: Option<u128>,
 ) -> Result<Option<Shares>, BoundsFault>
-    requires class { class < CLASSES }
-    requires plan { schedule.now ≡ plan_asked change.now }
+    requires case { IsCase case.now }
     requires periodic { IsPeriodic stream.now }
-    requires table { All IsPeriodic beside.table.now }
-    requires counted { All IsCounted beside.above.now }
     ensures shares { IfOk result
-        (λ shares. AreSharesOf settings.now change.now beside.entry.table.now beside.entry.above.now
-        class stream.now whole shares) }
+        (λ shares. AreSharesOf case.now.settings.now case.now.change.now case.now.table.now
+        case.now.above.now case.now.class stream.now whole shares) }
     ensures memory { IfErr result (λ fault. fault ≡ Faults.Memory) }
 {
     match whole {
-        Some(whole) => divided(
-            alloc, settings, change, schedule, beside, class, stream, whole,
-        ),
+        Some(whole) => divided(alloc, case, stream, whole),
         None => Ok(None),
     }
 }
@@ -227,34 +216,26 @@ pub fn shares_where(
 /// class.
 pub fn asked_shares(
     alloc: Global,
-    settings: &BoundsSettings,
-    change: &Change,
-    schedule: &Schedule,
-    beside: Beside<'_>,
+    case: &Case<'_>,
     streams: &[Stream],
-    class: u8,
     own: &ClassAnswer,
     place: usize,
 ) -> Result<Option<Shares>, BoundsFault>
-    requires class { class < CLASSES }
-    requires plan { schedule.now ≡ plan_asked change.now }
+    requires case { IsCase case.now }
     requires periodic { All IsPeriodic streams.now }
-    requires table { All IsPeriodic beside.table.now }
-    requires counted { All IsCounted beside.above.now }
     requires place { place < length streams.now }
     ensures shares { IfOk result
         (λ shares. (x : Stream) → slice_get streams.now place ≡ Some x →
-        AreAskedShares settings.now.why settings.now change.now beside.entry.table.now
-        beside.entry.above.now class x (greatest_of
-        (delay_at settings.now change.now x class own.now place)) shares) }
+        AreAskedShares case.now.settings.now.why case.now.settings.now case.now.change.now case.now.table.now
+        case.now.above.now case.now.class x (greatest_of
+        (delay_at case.now.settings.now case.now.change.now x case.now.class own.now place))
+        shares) }
     ensures memory { IfErr result (λ fault. fault ≡ Faults.Memory) }
 {
-    if !settings.why {
+    if !case.settings.why {
         return Ok(None);
     }
     let stream = stream_at(streams, place);
-    let whole = greatest_of(delay_at(settings, change, &stream, class, own, place));
-    shares_where(
-        alloc, settings, change, schedule, beside, class, &stream, whole,
-    )
+    let delay = delay_at(case.settings, case.change, &stream, case.class, own, place);
+    shares_where(alloc, case, &stream, greatest_of(delay))
 }

@@ -8,7 +8,7 @@ use Rattle.stream_bounds.proofs.extras.all_extras.Goals as goal
 
 pub loop-place-preserved : goal.loop-place-preserved
 loop-place-preserved c =
-    let P : ℕ → Stream → Extra → Type 0 = λ k y e. IsExtra c.args.settings.now c.args.change.now c.args.beside.table.now c.args.beside.above.now c.args.streams.now c.args.class c.args.own.now k y e in
+    let P : ℕ → Stream → Extra → Type 0 = λ k y e. IsExtra c.args.case.now.settings.now c.args.case.now.change.now c.args.case.now.table.now c.args.case.now.above.now c.args.streams.now c.args.case.now.class c.args.own.now k y e in
     let items : List Extra = c.loop-place.extras.items in
     let extra : Extra = c.in_ok-extra.extra in
     let new = subst (λ (n : ℕ). (y : Stream) → slice_get c.args.streams.now n ≡ Some y → P n y extra) (sym c.loop-place.invariant.count) c.in_ok-extra.ensures.extra in

@@ -10,5 +10,5 @@ abbrev pub invariant-loop-place : goal.invariant-loop-place
 invariant-loop-place l = record {
   count : length l.extras.items ≡ l.place;
   each : (place : ℕ) (x : Stream) (extra : Extra) → slice_get l.streams place ≡ Some x → slice_get l.extras.items place ≡ Some extra
-      → IsExtra l.settings l.change l.beside.table.now l.beside.above.now l.streams l.class l.own place x extra;
+      → IsExtra l.case.settings.now l.case.change.now l.case.table.now l.case.above.now l.streams l.case.class l.own place x extra;
 }

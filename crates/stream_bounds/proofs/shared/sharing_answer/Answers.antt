@@ -5,8 +5,8 @@ use Rattle.stream_bounds.proofs.shared.sharing_answer.Goals as goal
 
 pub returns-in-None-clause-answer : goal.returns-in-None-clause-answer
 returns-in-None-clause-answer c =
-    if_known c.args.settings.now c.args.change.now c.args.beside.table.now c.args.beside.above.now c.args.streams.now c.args.class
-    c.args.schedule.now c.open_above-open.result c.bounded_answer.result c.requires.plan c.open_above-open.ensures
+    if_known c.args.case.now.settings.now c.args.case.now.change.now c.args.case.now.table.now c.args.case.now.above.now c.args.streams.now c.args.case.now.class
+    c.args.case.now.schedule.now c.open_above-open.result c.bounded_answer.result c.requires.case.plan c.open_above-open.ensures
     (sym c.is_any.ensures ∙ c.if-is_any.false)
-    (subst (λ (h : Option ℕ). IsHighest c.args.schedule.now c.args.beside.above.now c.args.class h) c.in-None.is c.unbounded_above.ensures)
+    (subst (λ (h : Option ℕ). IsHighest c.args.case.now.schedule.now c.args.case.now.above.now c.args.case.now.class h) c.in-None.is c.unbounded_above.ensures)
     c.bounded_answer.ensures.answer
