@@ -26,7 +26,7 @@ fn line_hint(kind: LineKind, line: &[u8]) -> Option<Hint> {
             b"the greatest moment is 9223372036854775807000 ps, in a replay 4294967296000000000000 ps",
         ),
         LineKind::StreamTooLate => Hint::plain(
-            b"the last frame comes at OFFSET and COUNT - 1 times PERIOD, with --from later: at most 9223372036854775807000 ps",
+            b"the last frame comes at OFFSET and COUNT - 1 times PERIOD, with --from later: at most 9223372036854775807000 ps, in a capture before 4294967296 s",
         ),
         LineKind::FrameInReplay => Hint::marked(
             span_at(line, 0),

@@ -203,7 +203,7 @@ fn limits_of(kind: &[u8]) -> &'static [u8] {
         b"link" =>
             b"TIME is a number with its unit: ps, ns, us, ms or s, such as 5us; the second is at least the first",
         _ =>
-            b"a PERIOD is more than 0, the shortest LEN at most LEN, and ID and COUNT at most 2^64 together",
+            b"a PERIOD is more than 0, the shortest LEN at most LEN, and ID and COUNT at most 2^64 together; in a capture PRIORITY is at most 7, and a frame with a tag has 18 octets",
     }
 }
 

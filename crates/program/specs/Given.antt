@@ -1,5 +1,6 @@
 -- What the words of the program say of its settings.
-use Rattle.std.specs.Prelude.{◌⊎◌, List, ℕ, [], ◌∷◌, Bool, true, false, if◌then◌else◌, Option, Some, None, Result, Ok, Err, codes}
+use Rattle.std.specs.Prelude.{◌≡◌, ◌⊎◌, List, ℕ, [], ◌∷◌, Bool, true, false, if◌then◌else◌, Option, Some, None, Result, Ok, Err, codes}
+use Rattle.std.specs.Io.KnownBytes.{append_known}
 use Rattle.std.specs.List.{concat}
 use Rattle.std.specs.Option.{option_map_or}
 use Rattle.std.specs.Str.{bytes_eq}
@@ -29,9 +30,14 @@ use Rattle.traffic.specs.StreamsEnd.{GivenWords as StreamsGiven, IsStreamsEnding
 use Rattle.traffic.specs.declared.plan.Plan.{Plan}
 use Rattle.paths.specs.PathsEnd.{IsPathsEnding}
 use Rattle.plan.specs.PlanEnd.{IsPlanEnding}
+use Rattle.table_capture.specs.CaptureEnd.{IsCaptureEnding as IsTableCapture}
 use Rattle.stream_bounds.specs.BoundsEnd.{IsBoundsEnding, IsBoundsRefusal, bounds_given}
 use Rattle.stream_bounds.specs.declared.settings.BoundsSettings.{BoundsSettings}
 use Rattle.stream_bounds.specs.declared.settings.BoundsValue.{BoundsValue}
+
+-- the text where memory is out
+abbrev pub memory_text : List ℕ
+memory_text = codes "taprio_port: out of memory\n"
 
 -- whether a flag is given: it is then true
 abbrev pub flag_in : List ℕ → Found → Bool
@@ -88,13 +94,44 @@ streams_in found = record {
 abbrev pub plan_in : Found → Result Plan BadValue
 plan_in found = plan_given (streams_in found)
 
--- The end of a run on a table, where a script is named or none is. Without one, that of the table and a script of no octets; else that of
+-- The end of a run on a table, where a script to write among the frames is named or none is. Without one, that of the table and a script of no octets; else that of
 -- the table and of some octets, since what a file gives is not known, or of the path that can't be opened; or of a value that is bad, which comes first.
-abbrev pub IsGivenStreams : Result Plan BadValue → Option (List ℕ) → Option (List ℕ) → Ended → (old got errors_old errors_new : Option (List ℕ)) → Type 0
-IsGivenStreams plan None table ended old got errors_old errors_new = IsStreamsEnding plan table (Some []) ended old got errors_old errors_new
-IsGivenStreams (Ok plan) (Some path) table ended old got errors_old errors_new =
+abbrev pub IsGivenScript : Result Plan BadValue → Option (List ℕ) → Option (List ℕ) → Ended → (old got errors_old errors_new : Option (List ℕ)) → Type 0
+IsGivenScript plan None table ended old got errors_old errors_new = IsStreamsEnding plan table (Some []) ended old got errors_old errors_new
+IsGivenScript (Ok plan) (Some path) table ended old got errors_old errors_new =
     ((script : Option (List ℕ)) × IsStreamsEnding (Ok plan) table script ended old got errors_old errors_new) ⊎ IsUnanswered 4 (open_text path) ended old got errors_old errors_new
-IsGivenStreams (Err value) (Some path) table ended old got errors_old errors_new = IsRefusal value ended old got errors_old errors_new
+IsGivenScript (Err value) (Some path) table ended old got errors_old errors_new = IsRefusal value ended old got errors_old errors_new
+
+-- The end of a run that writes a file, and answers nothing: what the file got is the capture of the table.
+pub record IsIntoFile (plan : Plan) (table : Option (List ℕ)) (ended : Ended) (old got errors_old errors_new : Option (List ℕ)) : Type 0 where
+  pub file_old : Option (List ℕ)
+  pub file_got : Option (List ℕ)
+  pub ending : IsTableCapture plan table ended file_old file_got errors_old errors_new
+  pub unwritten : List ℕ
+  pub answered : append_known got unwritten ≡ old
+
+-- or memory is out, before anything is read
+abbrev pub IsIntoOpened : Plan → Option (List ℕ) → Ended → (old got errors_old errors_new : Option (List ℕ)) → Type 0
+IsIntoOpened plan table ended old got errors_old errors_new =
+    IsUnanswered 4 memory_text ended old got errors_old errors_new ⊎ IsIntoFile plan table ended old got errors_old errors_new
+
+-- The end of a run that writes a capture to a path: `-` is the standard output; else it is the file of that path, unless that can't be made, or is the standard
+-- input.
+abbrev pub IsCaptureTo : (answers : Bool) → List ℕ → Plan → Option (List ℕ) → Ended → (old got errors_old errors_new : Option (List ℕ)) → Type 0
+IsCaptureTo true path plan table ended old got errors_old errors_new = IsTableCapture plan table ended old got errors_old errors_new
+IsCaptureTo false path plan table ended old got errors_old errors_new =
+    IsIntoOpened plan table ended old got errors_old errors_new
+    ⊎ (IsUnanswered 4 (open_text path) ended old got errors_old errors_new ⊎ IsUnanswered 2 (over_input_text path) ended old got errors_old errors_new)
+
+-- so by a plan, whose bad value comes first
+abbrev pub IsGivenTableCapture : Result Plan BadValue → List ℕ → Option (List ℕ) → Ended → (old got errors_old errors_new : Option (List ℕ)) → Type 0
+IsGivenTableCapture (Ok plan) path table ended old got errors_old errors_new = IsCaptureTo (bytes_eq path (codes "-")) path plan table ended old got errors_old errors_new
+IsGivenTableCapture (Err value) path table ended old got errors_old errors_new = IsRefusal value ended old got errors_old errors_new
+
+-- the end of a run of `streams`, where the words name an output capture or none: a script does not go with one
+abbrev pub IsGivenStreams : Result Plan BadValue → (capture script : Option (List ℕ)) → Option (List ℕ) → Ended → (old got errors_old errors_new : Option (List ℕ)) → Type 0
+IsGivenStreams plan None script table ended old got errors_old errors_new = IsGivenScript plan script table ended old got errors_old errors_new
+IsGivenStreams plan (Some path) script table ended old got errors_old errors_new = IsGivenTableCapture plan path table ended old got errors_old errors_new
 
 -- the settings of the values that are given to the options of bounds
 abbrev pub bounds_in : Found → Result BoundsSettings BoundsValue

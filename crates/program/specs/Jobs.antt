@@ -25,15 +25,11 @@ use Rattle.replay.specs.Timing.{timing_text}
 use Rattle.replay.specs.Words.{IsReplayEnding, got}
 use Rattle.replay.specs.declared.timing.BadTiming.{BadTiming}
 use Rattle.replay.specs.declared.timing.Timing.{Timing}
-use Rattle.program.specs.Given.{IsGivenBounds, IsGivenFrames, IsGivenPaths, IsGivenPlan, IsGivenStreams, flag_in, bounds_in, draws_in, checks_in, is_strict, over_input_text, plan_in, settings_in, timing_in}
+use Rattle.program.specs.Given.{IsGivenBounds, IsGivenFrames, IsGivenPaths, IsGivenPlan, IsGivenStreams, flag_in, bounds_in, draws_in, checks_in, is_strict, memory_text, over_input_text, plan_in, settings_in, timing_in}
 use Rattle.program.specs.Strict.{IsStrictEnding}
 use Rattle.program.specs.Table.{name_of, program_app}
 use Rattle.program.specs.declared.job_name.JobName.{JobName}
 use Rattle.program.specs.declared.job_name.JobName.TheVariants as Names
-
--- the text where memory is out
-abbrev pub memory_text : List ℕ
-memory_text = codes "taprio_port: out of memory\n"
 
 -- The end of a replay of what is open, with the capture that is read: that of some script, since what a file gives is not known, and of some output
 -- capture.
@@ -77,7 +73,7 @@ IsJobEnding Names.Replay found input ended old new errors_old errors_new = IsGiv
 IsJobEnding Names.Check found input ended old new errors_old errors_new =
     (tell : Teller) → IsTeller tell → IsEnding (whole_check tell) (checks_in found) input ended old new errors_old errors_new
 IsJobEnding Names.Streams found input ended old new errors_old errors_new =
-    IsGivenStreams (plan_in found) (first_value found (codes "with")) input ended old new errors_old errors_new
+    IsGivenStreams (plan_in found) (first_value found (codes "capture")) (first_value found (codes "with")) input ended old new errors_old errors_new
 IsJobEnding Names.Bounds found input ended old new errors_old errors_new =
     IsGivenBounds (bounds_in found) (first_value found (codes "table")) input ended old new errors_old errors_new
 IsJobEnding Names.Paths found input ended old new errors_old errors_new =

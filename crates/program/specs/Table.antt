@@ -51,7 +51,9 @@ rules_of Names.Replay =
 rules_of Names.Check =
     option (codes "rate") ∷ option (codes "mtu") ∷ option (codes "map") ∷ flag (codes "shares") ∷ flag (codes "windows")
     ∷ option (codes "frame") ∷ flag (codes "script") ∷ flag (codes "strict") ∷ flag (codes "explain") ∷ []
-rules_of Names.Streams = option (codes "with") ∷ option (codes "from") ∷ flag (codes "late") ∷ option (codes "seed") ∷ flag (codes "strict") ∷ flag (codes "explain") ∷ []
+rules_of Names.Streams =
+    option (codes "with") ∷ option (codes "from") ∷ flag (codes "late") ∷ option (codes "seed") ∷ excluding (option (codes "capture"))
+    ∷ flag (codes "strict") ∷ flag (codes "explain") ∷ []
 rules_of Names.Bounds =
     option (codes "rate") ∷ option (codes "mtu") ∷ option (codes "room") ∷ option (codes "map") ∷ option (codes "frames")
     ∷ option (codes "silent") ∷ flag (codes "leftovers") ∷ flag (codes "slack") ∷ flag (codes "why") ∷ flag (codes "strict")

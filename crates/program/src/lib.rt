@@ -12,7 +12,7 @@ ghost use Rattle.std.specs.Prelude.{◌≡◌};
 ghost use Rattle.text.specs.Buffered.{writer_contents};
 ghost use Rattle.job.specs.RunEnd.{IsUnanswered};
 ghost use Rattle.job.specs.Texts.{IsTold};
-ghost use Rattle.program.specs.Jobs.{memory_text};
+ghost use Rattle.program.specs.Given.{memory_text};
 
 mod bounds_call;
 mod calls;

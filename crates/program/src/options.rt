@@ -541,6 +541,14 @@ const CAPTURE_OF_FRAMES: Word = Word {
     without: Some("by-stream"),
 };
 
+const CAPTURE_OF_TABLE: Word = Word {
+    given: Given::Value,
+    name: "capture",
+    value: "OUT",
+    help: "Write the frames as a capture into this file, or with - to standard output, in place of a script",
+    without: Some("with"),
+};
+
 const TO: Word = Word {
     given: Given::Value,
     name: "to",
@@ -610,7 +618,15 @@ pub(crate) const JOBS: [Job; 9] = [
     Job {
         name: JobName::Streams,
         about: "Writes a script with the frames of the streams in a table on standard input",
-        words: &[LINES, OFFSETS_FROM, LATE, SEED, STRICT_STREAMS, EXPLAIN],
+        words: &[
+            LINES,
+            OFFSETS_FROM,
+            LATE,
+            SEED,
+            CAPTURE_OF_TABLE,
+            STRICT_STREAMS,
+            EXPLAIN,
+        ],
     },
     Job {
         name: JobName::Bounds,

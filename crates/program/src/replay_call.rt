@@ -3,8 +3,8 @@
 ghost use Rattle.std.specs.Prelude.{◌≡◌, IfErr, IfOk, None, OnOk, Some, [], codes, option_map, unwrap_or};
 ghost use Rattle.text.specs.Buffered.{writer_contents};
 ghost use Rattle.clap.specs.Matches.{first_value, found_of};
-ghost use Rattle.program.specs.Given.{over_input_text, settings_in, timing_in};
-ghost use Rattle.program.specs.Jobs.{IsGivenReplay, IsReplayed, IsReplayedOrForgotten, memory_text};
+ghost use Rattle.program.specs.Given.{memory_text, over_input_text, settings_in, timing_in};
+ghost use Rattle.program.specs.Jobs.{IsGivenReplay, IsReplayed, IsReplayedOrForgotten};
 ghost use Rattle.capture.specs.declared.writer.TheConstants.{CAPTURE_END};
 ghost use Rattle.job.specs.RunEnd.{IsUnanswered};
 ghost use Rattle.job.specs.Texts.{IsTold};
@@ -98,8 +98,8 @@ struct Opened<T: Drop> {
     out: T,
 }
 
-/// Why the files of a replay are not opened.
-enum Unopened<'a> {
+/// Why files are not opened.
+pub(crate) enum Unopened<'a> {
     /// The file of this path can't be opened.
     Path(&'a str),
     /// The output of this path is one of the inputs.
@@ -107,21 +107,30 @@ enum Unopened<'a> {
 }
 
 /// The standard input, as a path (proc(5)).
-const STANDARD_INPUT: &str = "/dev/stdin";
+pub(crate) const STANDARD_INPUT: &str = "/dev/stdin";
 
-/// Makes the output or empties it, unless it is one of the inputs, by whatever name.
-fn create_out<'a, F: Files>(files: &F, matches: &ArgMatches<'a>) -> Result<F::File, Unopened<'a>> {
-    let out = path_of(matches, "out");
-    let capture = match path_of(matches, "capture") {
-        "-" => STANDARD_INPUT,
-        path => path,
-    };
-    for input in [path_of(matches, "script"), capture] {
+/// Makes the file of a path or empties it, unless it is one of the inputs, by whatever name.
+pub(crate) fn create_beside<'a, F: Files>(
+    files: &F,
+    out: &'a str,
+    inputs: &[&str],
+) -> Result<F::File, Unopened<'a>> {
+    for input in inputs {
         if is_same_file(files, out, input) {
             return Err(Unopened::Input(out));
         }
     }
     create(files, out).map_err(|path| Unopened::Path(path))
+}
+
+/// Makes the output or empties it, unless it is one of the inputs.
+fn create_out<'a, F: Files>(files: &F, matches: &ArgMatches<'a>) -> Result<F::File, Unopened<'a>> {
+    let capture = match path_of(matches, "capture") {
+        "-" => STANDARD_INPUT,
+        path => path,
+    };
+    let inputs = [path_of(matches, "script"), capture];
+    create_beside(files, path_of(matches, "out"), &inputs)
 }
 
 /// Opens the files in their order, or says why they are not opened.
@@ -186,7 +195,7 @@ fn say_over_input<W: Write>(path: &str, writer: &mut W) -> Ended
 }
 
 /// Reports an output that is one of the inputs, and gives the writer of the answers back. Nothing is answered.
-fn end_over_input<B: Allocator, W: Write + Drop, E: Errors>(
+pub(crate) fn end_over_input<B: Allocator, W: Write + Drop, E: Errors>(
     path: &str,
     answers: BufWriter<W, B>,
     errors: &mut E,
@@ -224,7 +233,7 @@ fn end_untimed<B: Allocator, W: Write + Drop, E: Errors>(
 
 /// Reports that memory is out for the buffer of the output, and gives the writer of the answers back. Nothing is
 /// answered.
-fn end_unbuffered<B: Allocator, W: Write + Drop, E: Errors>(
+pub(crate) fn end_unbuffered<B: Allocator, W: Write + Drop, E: Errors>(
     answers: BufWriter<W, B>,
     errors: &mut E,
 ) -> (Ended, W)
