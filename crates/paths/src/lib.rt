@@ -17,6 +17,7 @@ mod ports;
 mod ways;
 
 pub use faults::{PathsFault, PathsFinding, PathsInput};
-pub use network_lines::paths;
+pub use network_lines::{answer_schedules, paths};
+pub use next_lines::put_stream;
 pub use paths_job::answer_paths;
-pub use ports::MOST_NETWORK_PORTS;
+pub use ports::{MOST_NETWORK_PORTS, ports_of, settings_at};

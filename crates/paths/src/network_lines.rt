@@ -127,8 +127,10 @@ fn answer_ports<W: Write>(
     }
 }
 
-/// Answers about a network with these schedules.
-fn answer_schedules<W: Write>(
+/// Answers about a network with these schedules, or where a port is asked for writes the table of the streams that come
+/// to it. A schedule that a new port refuses is the fault, and so it is where there are more than 65,536 ports; nothing
+/// is written then. A strict run answers the same; its fault is the first finding.
+pub fn answer_schedules<W: Write>(
     alloc: Global,
     settings: &BoundsSettings,
     target: Option<usize>,

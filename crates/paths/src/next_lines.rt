@@ -106,8 +106,8 @@ fn put_parts_of<W: Write>(writer: &mut W, stream: &Stream) -> Result<(), WriteFa
     put(writer, b"\n")
 }
 
-/// Writes the line of a stream.
-fn put_stream<W: Write>(writer: &mut W, stream: &Stream) -> Result<(), WriteFault>
+/// Writes the line of a stream, as it stands in a table: without its deadline.
+pub fn put_stream<W: Write>(writer: &mut W, stream: &Stream) -> Result<(), WriteFault>
     ensures { Writes result (W.contents writer.old) (W.contents writer.new)
         (stream_line stream.now) }
 {

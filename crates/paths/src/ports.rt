@@ -77,7 +77,11 @@ fn setup_at(base: Settings, values: Option<PortValues>) -> Settings
 }
 
 /// By what a port is judged.
-fn settings_at(settings: &BoundsSettings, network: &Network<Global>, port: usize) -> BoundsSettings
+pub fn settings_at(
+    settings: &BoundsSettings,
+    network: &Network<Global>,
+    port: usize,
+) -> BoundsSettings
     ensures { result ≡ settings_at settings.now (seen network.now) port }
 {
     let values = values_at(port, network.settings.as_slice());
@@ -312,7 +316,7 @@ fn first_ports(
 }
 
 /// The ports of a network, with their schedules. The first whose schedule a new port refuses is the fault.
-pub(crate) fn ports_of(
+pub fn ports_of(
     alloc: Global,
     settings: &BoundsSettings,
     network: &Network<Global>,

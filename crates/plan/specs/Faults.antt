@@ -6,6 +6,8 @@ use Rattle.job.specs.declared.fault.Fault.{Fault}
 use Rattle.job.specs.declared.fault.Fault.TheVariants as Faults
 use Rattle.job.specs.declared.kind.FaultKind.{FaultKind}
 use Rattle.job.specs.declared.kind.FaultKind.TheVariants as Kinds
+use Rattle.network.specs.Faults.{network_kind, network_text}
+use Rattle.network.specs.declared.network_table.faults.BadNetwork.{BadNetwork}
 use Rattle.plan.specs.declared.faults.PlanInput.{PlanInput}
 use Rattle.plan.specs.declared.faults.PlanInput.TheVariants as Inputs
 use Rattle.plan.specs.declared.reasons.Reason.{Reason}
@@ -36,21 +38,31 @@ table_fault Faults.Read = Faults.Read
 table_fault Faults.Write = Faults.Write
 table_fault Faults.Memory = Faults.Memory
 
+-- and one that reading a network has
+abbrev pub network_fault : Fault BadNetwork → Fault PlanInput
+network_fault (Faults.Input bad) = Faults.Input (Inputs.Network bad)
+network_fault Faults.Read = Faults.Read
+network_fault Faults.Write = Faults.Write
+network_fault Faults.Memory = Faults.Memory
+
 -- the text of a fault
 abbrev pub plan_text : PlanInput → List ℕ
 plan_text (Inputs.Table line fault) = line_text (codes "taprio_port: table line ") line fault
+plan_text (Inputs.Network bad) = network_text bad.line bad.fault
 plan_text Inputs.Large = codes "taprio_port: plan: the table has more than 16777216 octets\n"
 plan_text (Inputs.Without reason) = codes "taprio_port: plan: no schedule is found\n"
 
 -- what a fault is
 abbrev pub plan_kind : PlanInput → FaultKind
 plan_kind (Inputs.Table line fault) = Kinds.Line (table_kind fault)
+plan_kind (Inputs.Network bad) = network_kind bad
 plan_kind Inputs.Large = Kinds.Found
 plan_kind (Inputs.Without reason) = Kinds.Found
 
--- the exit status of a fault: 3 where the table is refused, 1 where no schedule is found
+-- the exit status of a fault: 3 where the table or the network is refused, 1 where no schedule is found
 abbrev pub plan_status : PlanInput → ℕ
 plan_status (Inputs.Table line fault) = 3
+plan_status (Inputs.Network bad) = 3
 plan_status Inputs.Large = 3
 plan_status (Inputs.Without reason) = 1
 

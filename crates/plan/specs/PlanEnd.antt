@@ -10,7 +10,8 @@ use Rattle.job.specs.declared.kind.ValueKind.{ValueKind}
 use Rattle.job.specs.declared.kind.ValueKind.TheVariants as Options
 use Rattle.job.specs.declared.report.Ended.{Ended}
 use Rattle.plan.specs.Faults.{plan_telling, reason_text}
-use Rattle.plan.specs.Met.{IsMet}
+use Rattle.network.specs.Network.{network_of}
+use Rattle.plan.specs.Met.{IsMetBy}
 use Rattle.plan.specs.declared.faults.PlanInput.{PlanInput}
 use Rattle.plan.specs.declared.faults.PlanInput.TheVariants as Inputs
 use Rattle.plan.specs.declared.reasons.Reason.{Reason}
@@ -24,17 +25,18 @@ use Rattle.script.specs.declared.settings.BadValue.TheVariants as BadValues
 use Rattle.stream_bounds.specs.Outcome.{periodic}
 use Rattle.traffic.specs.Table.{table_by}
 
--- A text that may be written for a table: a line of a schedule that is met, or why there is none.
+-- A text that may be written for a table or a network: lines of schedules that are met, or why there are none.
 abbrev pub IsPlanText : Setup → (table text : List ℕ) → Type 0
-IsPlanText port table text = IsMet port table text ⊎ ((reason : Reason) × (text ≡ reason_text reason))
+IsPlanText port table text = IsMetBy port table text ⊎ ((reason : Reason) × (text ≡ reason_text reason))
 
--- What is written by a result, for a table of these octets. At Ok it is a line of a schedule that is met, and nothing else; where no schedule is
--- found, why. Where the table has a fault, or too many octets, nothing is written. If a call fails, it is at most a prefix.
+-- What is written by a result, for a table or a network of these octets. At Ok it is lines of schedules that are met, and nothing else; where none are
+-- found, why. Where it has a fault, or too many octets, nothing is written. If a call fails, it is at most a prefix.
 abbrev pub IsPlanned : Setup → (table : List ℕ) → Result (Unit {0}) (Fault PlanInput) → (old new : Option (List ℕ)) → Type 0
-IsPlanned port table (Ok x) old new = (line : List ℕ) × IsMet port table line × Appends old new line
+IsPlanned port table (Ok x) old new = (line : List ℕ) × IsMetBy port table line × Appends old new line
 IsPlanned port table (Err (Faults.Input (Inputs.Without reason))) old new = Appends old new (reason_text reason)
 IsPlanned port table (Err (Faults.Input (Inputs.Table number fault))) old new =
     (table_by periodic (script_of table)).fault ≡ Some (number, fault) × Keeps old new
+IsPlanned port table (Err (Faults.Input (Inputs.Network bad))) old new = network_of (script_of table) ≡ Err bad × Keeps old new
 IsPlanned port table (Err (Faults.Input Inputs.Large)) old new = Keeps old new
 IsPlanned port table (Err Faults.Write) old new = (text : List ℕ) × IsPlanText port table text × AppendsFront old new text
 IsPlanned port table (Err Faults.Read) old new = Keeps old new

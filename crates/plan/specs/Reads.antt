@@ -9,6 +9,7 @@ use Rattle.plan.specs.declared.faults.PlanInput.TheVariants as Inputs
 -- why an input is not read: a call failed, or it has too many octets
 abbrev pub IsUnread : Fault PlanInput → Type 0
 IsUnread (Faults.Input (Inputs.Table number fault)) = ⊥
+IsUnread (Faults.Input (Inputs.Network bad)) = ⊥
 IsUnread (Faults.Input Inputs.Large) = ⊤
 IsUnread (Faults.Input (Inputs.Without reason)) = ⊥
 IsUnread Faults.Write = ⊥

@@ -3,7 +3,8 @@ use Rattle.std.specs.Prelude.{◌≡◌, ⊤, ℕ, List, Some, Result, Ok, Err}
 use Rattle.text.specs.Script.{script_of}
 use Rattle.job.specs.declared.fault.Fault.{Fault}
 use Rattle.job.specs.declared.fault.Fault.TheVariants as Faults
-use Rattle.plan.specs.Met.{IsMet}
+use Rattle.network.specs.Network.{network_of}
+use Rattle.plan.specs.Met.{IsMetBy}
 use Rattle.plan.specs.declared.faults.PlanInput.{PlanInput}
 use Rattle.plan.specs.declared.faults.PlanInput.TheVariants as Inputs
 use Rattle.plan.specs.declared.plans.Planned.{Planned}
@@ -12,15 +13,16 @@ use Rattle.script.specs.Setup.{Setup}
 use Rattle.stream_bounds.specs.Outcome.{periodic}
 use Rattle.traffic.specs.Table.{table_by}
 
--- the line that is found, where one is, is met by a table of these octets
+-- the lines that are found, where some are, are met by a table or a network of these octets
 abbrev pub IsGood : Setup → (table : List ℕ) → Planned → Type 0
-IsGood port table (Plans.Plan found) = IsMet port table found.line.items
+IsGood port table (Plans.Plan found) = IsMetBy port table found.line.items
 IsGood port table (Plans.Without reason) = ⊤
 
--- so at Ok; else the table has this fault, or is too long, or a call failed
+-- so at Ok; else the table or the network has this fault, or it is too long, or a call failed
 abbrev pub IsGoodOr : Setup → (table : List ℕ) → Result Planned (Fault PlanInput) → Type 0
 IsGoodOr port table (Ok planned) = IsGood port table planned
 IsGoodOr port table (Err (Faults.Input (Inputs.Table number fault))) = (table_by periodic (script_of table)).fault ≡ Some (number, fault)
+IsGoodOr port table (Err (Faults.Input (Inputs.Network bad))) = network_of (script_of table) ≡ Err bad
 IsGoodOr port table (Err (Faults.Input Inputs.Large)) = ⊤
 IsGoodOr port table (Err (Faults.Input (Inputs.Without reason))) = ⊥
 IsGoodOr port table (Err Faults.Write) = ⊥

@@ -1,10 +1,11 @@
 //! Why a run ends without a plan.
 
 ghost use Rattle.std.specs.Prelude.{◌≡◌};
-ghost use Rattle.plan.specs.Faults.{plan_kind, plan_telling, table_fault};
+ghost use Rattle.plan.specs.Faults.{network_fault, plan_kind, plan_telling, table_fault};
 
 use crate::reasons::Reason;
 use job::{Fault, FaultKind, InputFault};
+use network::network_table::{BadNetwork, NetworkRunFault};
 use port_text::answer_text::{WriteFault, put};
 use script::{RunFault, ScriptFault, put_line_fault};
 use std::io::Write;
@@ -16,6 +17,9 @@ pub enum PlanInput {
     /// The line of the table of this number, counted in physical lines from 1, has this fault. Nothing is written.
     #[error("line {0} of the table: {1:?}")]
     Table(u32, ScriptFault),
+    /// A line of the network has this fault. Nothing is written.
+    #[error("the network: {0:?}")]
+    Network(BadNetwork),
     /// The table has too many octets. Nothing is written.
     #[error("the table has too many octets")]
     Large,
@@ -39,6 +43,18 @@ pub(crate) fn table_fault(fault: RunFault) -> PlanFault
     }
 }
 
+/// A fault that reading a network has, as one of the job.
+pub(crate) fn network_fault(fault: NetworkRunFault) -> PlanFault
+    ensures { result ≡ network_fault fault }
+{
+    match fault {
+        Fault::Input(bad) => Fault::Input(PlanInput::Network(bad)),
+        Fault::Read => Fault::Read,
+        Fault::Write => Fault::Write,
+        Fault::Memory => Fault::Memory,
+    }
+}
+
 impl InputFault for PlanInput {
     ghost telling = { plan_telling };
 
@@ -46,7 +62,7 @@ impl InputFault for PlanInput {
 
     fn status(&self) -> u8 {
         match self {
-            PlanInput::Table(..) | PlanInput::Large => 3,
+            PlanInput::Table(..) | PlanInput::Network(_) | PlanInput::Large => 3,
             PlanInput::Without(_) => 1,
         }
     }
@@ -54,6 +70,7 @@ impl InputFault for PlanInput {
     fn kind(&self) -> FaultKind {
         match *self {
             PlanInput::Table(_, fault) => FaultKind::Line(fault.kind_in_table()),
+            PlanInput::Network(bad) => bad.kind(),
             PlanInput::Large | PlanInput::Without(_) => FaultKind::Found,
         }
     }
@@ -63,6 +80,7 @@ impl InputFault for PlanInput {
             PlanInput::Table(line, fault) => {
                 put_line_fault(writer, b"taprio_port: table line ", line, fault)
             }
+            PlanInput::Network(bad) => bad.put(writer),
             PlanInput::Large => put(
                 writer,
                 b"taprio_port: plan: the table has more than 16777216 octets\n",

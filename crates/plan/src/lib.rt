@@ -1,10 +1,12 @@
-//! A schedule that meets the deadlines of a table of streams.
+//! A schedule that meets the deadlines of a table of streams, or one for each port of a network.
 //!
 //! What a search finds is not believed: each schedule is written as a line, and that line and the table are given to
-//! `stream_bounds::bounds`. Only one by which a strict run finds nothing is answered. The claim is specs/Met.antt, and
+//! `stream_bounds::bounds`, and those of a network to `paths::paths`. Only what a strict run finds nothing of is
+//! answered. The claim is specs/Met.antt, and
 //! what is written specs/PlanEnd.antt; the contracts of `plan` and `answer_plan` cite them.
 #![tactic(auto)]
 
+mod along;
 mod classes;
 mod faults;
 mod judge;

@@ -7,12 +7,12 @@ use port_text::answer_text::{Part, WriteFault, put_parts};
 use std::io::Write;
 
 /// Writes the device, the number of classes and the map.
-fn put_map<W: Write>(writer: &mut W, device: &str, classes: &Classes) -> Result<(), WriteFault> {
+fn put_map<W: Write>(writer: &mut W, device: &[u8], classes: &Classes) -> Result<(), WriteFault> {
     put_parts(
         writer,
         &[
             Part::Text(b"tc qdisc replace dev "),
-            Part::Text(device.as_bytes()),
+            Part::Text(device),
             Part::Text(b" parent root handle 100 taprio num_tc "),
             Part::Number(u128::from(classes.count)),
             Part::Text(b" map"),

@@ -29,7 +29,7 @@ use wire_time::MAX_MOMENT;
 const LONGEST: u64 = 4_294_967_295;
 
 /// The device where none is named.
-const DEVICE: &str = "eth0";
+const DEVICE: &[u8] = b"eth0";
 
 /// A time of whole nanoseconds, from so many up.
 fn read_time(text: &str, least: u64) -> Option<u64> {
@@ -81,7 +81,7 @@ fn is_of_name(octet: u8) -> bool {
 }
 
 /// The name of the device.
-fn read_device<'a>(text: Option<&'a str>) -> Option<&'a str> {
+fn read_device<'a>(text: Option<&'a str>) -> Option<&'a [u8]> {
     let Some(name) = text else {
         return Some(DEVICE);
     };
@@ -90,7 +90,7 @@ fn read_device<'a>(text: Option<&'a str>) -> Option<&'a str> {
         return None;
     }
     if octets.iter().all(|octet| is_of_name(*octet)) {
-        Some(name)
+        Some(octets)
     } else {
         None
     }
@@ -157,18 +157,14 @@ pub fn end_with_plan_value<B: Allocator, W: Write + Drop, E: Errors>(
     end_told(ended, answers)
 }
 
-/// Tells what a plan leaves to the classes without deadlines, and what `bounds` answers about it.
+/// Tells what a plan leaves to the classes without deadlines, and what `bounds` or `paths` answers about it.
 fn put_note<E: Errors>(errors: &mut E, plan: &Found) -> Result<(), WriteFault>
     ensures { IsNoted true (E.contents errors.old) (E.contents errors.new) }
 {
     put_parts(
         errors,
         &[
-            Part::Text(b"taprio_port: note: open class 0 "),
-            Part::Number(u128::from(plan.open).saturating_mul(1000)),
-            Part::Text(b" of "),
-            Part::Number(u128::from(plan.cycle).saturating_mul(1000)),
-            Part::Text(b"\n"),
+            Part::Text(plan.note.as_slice()),
             Part::Text(plan.answers.as_slice()),
         ],
     )

@@ -6,17 +6,19 @@ ghost use Rattle.plan.specs.Search.{IsGood, IsGoodOr, IsGoodOrMemory};
 ghost use Rattle.job.specs.declared.fault.Fault.TheVariants as Faults;
 ghost use Rattle.script.specs.Setup.{Setup};
 
+use crate::along::{is_network, plan_network};
 use crate::classes::{Classes, classes_of, flows_of};
 use crate::faults::{PlanFault, PlanInput, table_fault};
 use crate::judge::{Judged, verdict_of};
 use crate::line::put_schedule;
 use crate::octets::read_octets;
-use crate::reasons::{Reason, put_reason, reason_of};
+use crate::reasons::{Reason, put_reason};
 use crate::schedule_search::{
     Candidate, Flow, Limits, MAX_STRATEGIES, Why, find_schedule, is_needed, overloaded_class,
     strategy_of,
 };
 use crate::settings::PlanSettings;
+use port_text::answer_text::{Part, put_parts};
 use script::Watch;
 use std::alloc::Global;
 use std::io::{Read, Write};
@@ -26,17 +28,15 @@ use text::octet_writer::put;
 use traffic::{Stream, read_table};
 use wire_time::{lead, occupancy};
 
-/// A plan: its line, and what `bounds` answers about it.
+/// A plan: its lines, and what is answered about them.
 #[derive(Drop)]
 pub(crate) struct Found {
-    /// The line.
+    /// The line of each port.
     pub line: Vec<u8>,
-    /// What `bounds` answers.
+    /// What `bounds` or `paths` answers.
     pub answers: Vec<u8>,
-    /// For how many nanoseconds of a cycle the classes without deadlines are open.
-    pub open: u64,
-    /// The cycle, in nanoseconds.
-    pub cycle: u64,
+    /// For how long classes without deadlines are open, as it is told.
+    pub note: Vec<u8>,
 }
 
 /// What a search comes to.
@@ -205,6 +205,24 @@ fn order_of(candidate: &Candidate) -> (u64, usize) {
     (100u64.saturating_sub(share), candidate.openings.len())
 }
 
+/// For how long a candidate leaves the line to the classes without deadlines.
+fn note_of(alloc: Global, candidate: &Candidate) -> Result<Vec<u8>, PlanFault>
+    ensures { IfErr result (λ why. why ≡ Faults.Memory) }
+{
+    let mut note = Vec::new(alloc);
+    let parts = [
+        Part::Text(b"taprio_port: note: open class 0 "),
+        Part::Number(u128::from(candidate.open).saturating_mul(1000)),
+        Part::Text(b" of "),
+        Part::Number(u128::from(candidate.cycle).saturating_mul(1000)),
+        Part::Text(b"\n"),
+    ];
+    match put_parts(&mut note, &parts) {
+        Ok(()) => Ok(note),
+        Err(_) => Err(PlanFault::Memory),
+    }
+}
+
 /// Judges a candidate: the plan, if a strict run of `bounds` finds nothing.
 fn plan_by(
     alloc: Global,
@@ -226,10 +244,9 @@ fn plan_by(
         Judged::Met => Ok(Planned::Plan(Found {
             line,
             answers,
-            open: candidate.open,
-            cycle: candidate.cycle,
+            note: note_of(alloc, candidate)?,
         })),
-        Judged::Found(finding) => Ok(Planned::Without(reason_of(finding))),
+        Judged::Found(reason) => Ok(Planned::Without(reason)),
         Judged::Unjudged => Ok(Planned::Without(Reason::Cycle)),
         Judged::Memory => Err(PlanFault::Memory),
     }
@@ -299,7 +316,7 @@ fn plan_streams(
 }
 
 /// Plans for a table of these octets.
-fn plan_table<H: Watch>(
+pub(crate) fn plan_table<H: Watch>(
     alloc: Global,
     settings: &PlanSettings<'_>,
     table: &[u8],
@@ -318,7 +335,23 @@ fn plan_table<H: Watch>(
     }
 }
 
-/// Reads a table, and plans for it.
+/// Plans for a table or a network of these octets.
+fn plan_octets<H: Watch>(
+    alloc: Global,
+    settings: &PlanSettings<'_>,
+    octets: &[u8],
+    watch: &mut H,
+) -> Result<Planned, PlanFault>
+    ensures { IsGoodOr settings.now.port octets.now result }
+{
+    match is_network(alloc, octets) {
+        Ok(true) => plan_network(alloc, settings, octets, watch),
+        Ok(false) => plan_table(alloc, settings, octets, watch),
+        Err(_) => Err(PlanFault::Memory),
+    }
+}
+
+/// Reads a table or a network, and plans for it.
 pub(crate) fn plan_for<R: Read, H: Watch>(
     alloc: Global,
     table: &mut R,
@@ -328,7 +361,7 @@ pub(crate) fn plan_for<R: Read, H: Watch>(
     ensures { IfSome (R.remaining table.old) (λ octets. IsGoodOr settings.now.port octets result) }
 {
     let octets = read_octets(alloc, table)?;
-    plan_table(alloc, settings, octets.as_slice(), watch)
+    plan_octets(alloc, settings, octets.as_slice(), watch)
 }
 
 /// Writes what a search came to.

@@ -4,6 +4,7 @@ ghost use Rattle.std.specs.Prelude.{◌≡◌};
 ghost use Rattle.text.specs.Writes.{Writes};
 ghost use Rattle.plan.specs.Faults.{numbered, reason_text};
 
+use paths::PathsFinding;
 use port_text::answer_text::{Part, WriteFault, put_parts};
 use std::io::Write;
 use stream_bounds::Finding;
@@ -68,5 +69,18 @@ pub(crate) fn reason_of(finding: Finding) -> Reason {
         }
         Finding::NoStream => Reason::Streams,
         Finding::TcFault(_) | Finding::Refused(_) | Finding::NoSchedule => Reason::Cycle,
+    }
+}
+
+/// The reason of a finding about a network.
+pub(crate) fn reason_along(finding: PathsFinding) -> Reason {
+    match finding {
+        PathsFinding::Missed(id) | PathsFinding::Unknown(id) => Reason::Deadline(id),
+        PathsFinding::Dropped(id) => Reason::Dropped(id),
+        PathsFinding::Full(_, class)
+        | PathsFinding::Stuck(_, class)
+        | PathsFinding::Overloaded(_, class) => Reason::Lost(class),
+        PathsFinding::NoStream => Reason::Streams,
+        PathsFinding::NoSchedule => Reason::Cycle,
     }
 }

@@ -4,9 +4,11 @@ ghost use Rattle.std.specs.Prelude.{◌≡◌};
 ghost use Rattle.job.specs.Texts.{IsTold};
 ghost use Rattle.plan.specs.PlanEnd.{plan_value_kind, plan_value_text};
 
+use crate::judge::strict_settings;
 use job::{Ended, ValueKind};
 use script::{BadValue, Settings, Values, put_value};
 use std::io::Write;
+use stream_bounds::BoundsSettings;
 use text::octet_writer::put;
 
 /// What a plan is made for.
@@ -21,13 +23,23 @@ pub struct PlanSettings<'a> {
     /// How long each entry is at the least, in nanoseconds.
     pub least: u64,
     /// The name of the device.
-    pub device: &'a str,
+    pub device: &'a [u8],
     /// The base time, in nanoseconds.
     pub base_time: u64,
     /// Whether classes without deadlines may use what the windows of higher ones leave.
     pub share: bool,
     /// Whether it is told what the plan leaves, and what its bounds are.
     pub explain: bool,
+}
+
+impl PlanSettings<'_> {
+    /// The settings of a run on new ports, whose findings are no fault.
+    pub(crate) fn asked(&self) -> BoundsSettings {
+        BoundsSettings {
+            strict: false,
+            ..strict_settings(self.port)
+        }
+    }
 }
 
 /// The values of the options, where they are given, as words.
