@@ -69,6 +69,14 @@ def rows():
         + b"".join(b"class %d most 1 of 128 frames 5000 every 1000000000000\n" % it for it in range(2))
         + b"".join(b"bound %d class %d wait 0 to 0 end 672000 to 672000 deadline 672000 met\n" % (it, it % 2) for it in range(10_000)),
     )
+    # Its first octets are those of the last physical line that there may be, which is joined with the next.
+    yield Row(
+        "script: a line that is too long is told before a physical line too many",
+        ["script"],
+        input=b"\n" * 3_999_999 + b"#" * 65_534 + b"\\\n#",
+        errors=b"taprio_port: script line 4000000: LongLine\n",
+        status=3,
+    )
     for words in [["script"], ["script", "--rate", "1000", "--mtu", "1500", "--room", "0128"]]:
         yield Row(
             f"{' '.join(words)}: a class has room for 128 frames, and the next is dropped",

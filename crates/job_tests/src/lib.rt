@@ -16,6 +16,8 @@ pub mod line_reader_tests;
 #[cfg(test)]
 mod memory;
 pub mod network_table_tests;
+#[cfg(test)]
+mod numbers;
 pub mod picture_tests;
 #[cfg(test)]
 mod pictures;
