@@ -10,7 +10,7 @@ _taprio_port() {
         script) words='--rate --mtu --room --until --summary --strict --strict-frames --explain --help' values='--rate --mtu --room --until' ;;
         replay) words='--rate --mtu --room --until --stamp --shift --summary --progress --strict --strict-frames --explain --help' values='--rate --mtu --room --until --stamp --shift' ;;
         check) words='--rate --mtu --map --shares --windows --frame --script --strict --explain --help' values='--rate --mtu --map --frame' ;;
-        streams) words='--with --from --late --seed --strict --explain --help' values='--with --from --seed' ;;
+        streams) words='--with --from --late --seed --capture --strict --explain --help' values='--with --from --seed --capture' ;;
         bounds) words='--rate --mtu --room --map --frames --silent --leftovers --slack --why --strict --explain --help' values='--rate --mtu --room --map --frames --silent' ;;
         paths) words='--rate --mtu --room --frames --silent --leftovers --next --strict --explain --help' values='--rate --mtu --room --frames --silent --next' ;;
         plan) words='--rate --mtu --room --cycle --entries --least-interval --device --base-time --share --explain --help' values='--rate --mtu --room --cycle --entries --least-interval --device --base-time' ;;

@@ -18,16 +18,15 @@ use budgets::{SPLITS, Split};
 use network::network_table::{Network, read_network};
 use order::{Done, next_port};
 use paths::settings_at;
-use port_text::answer_text::{Part, put_parts};
 use script::{Unwatched, Watch};
-use std::alloc::Global;
+use std::alloc::{AllocError, Global};
 use tables::table_at;
 use text::line_reader::LineReader;
 use text::words::Words;
 
 /// Whether some of these words is `via`.
 fn has_via(mut words: Words<'_>) -> bool {
-    while let Some(word) = words.next_word() {
+    'words: while let Some(word) = words.next_word() {
         if word == b"via".as_slice() {
             return true;
         }
@@ -70,22 +69,12 @@ struct Lines {
 }
 
 /// Adds the plan of a port of this name.
-fn add_plan(lines: &mut Lines, name: &[u8], plan: &Found) -> Result<(), PlanFault>
-    ensures { IfErr result (λ why. why ≡ Faults.Memory) }
-{
-    let head = [
-        Part::Text(b"taprio_port: note: port "),
-        Part::Text(name),
-        Part::Text(b"\n"),
-        Part::Text(plan.note.as_slice()),
-    ];
-    if lines.text.extend_from_slice(plan.line.as_slice()).is_err() {
-        return Err(PlanFault::Memory);
-    }
-    match put_parts(&mut lines.note, &head) {
-        Ok(()) => Ok(()),
-        Err(_) => Err(PlanFault::Memory),
-    }
+fn add_plan(lines: &mut Lines, name: &[u8], plan: &Found) -> Result<(), AllocError> {
+    lines.text.extend_from_slice(plan.line.as_slice())?;
+    lines.note.extend_from_slice(b"taprio_port: note: port ")?;
+    lines.note.extend_from_slice(name)?;
+    lines.note.extend_from_slice(b"\n")?;
+    lines.note.extend_from_slice(plan.note.as_slice())
 }
 
 /// The name of a port, or the device that is given where it has none.
@@ -144,11 +133,12 @@ fn plan_each(
         match plan_port(alloc, settings, network, lines.text.as_slice(), port, split)? {
             Planned::Plan(plan) => {
                 let name = name_of(network, port, settings.device);
-                add_plan(&mut lines, name, &plan)?;
+                if add_plan(&mut lines, name, &plan).is_err() || done.add(port).is_err() {
+                    return Err(PlanFault::Memory);
+                }
             }
             Planned::Without(reason) => return Ok(Err(reason)),
         }
-        done.add(port)?;
     }
     Ok(Ok(lines))
 }

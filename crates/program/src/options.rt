@@ -451,6 +451,11 @@ const TABLE: Word = Word {
     without: None,
 };
 
+const TABLE_OR_NETWORK: Word = Word {
+    help: "The file with the table of streams, or with a network: its ports, links and streams",
+    ..TABLE
+};
+
 const NETWORK: Word = Word {
     given: Given::File,
     name: "network",
@@ -521,7 +526,7 @@ const SHARE: Word = Word {
 };
 
 const EXPLAIN_PLAN: Word = Word {
-    help: "Report what the plan leaves to class 0, and what bounds says of it, on standard error",
+    help: "Report what the plan leaves to class 0, and what bounds or paths says of it, on standard error",
     ..EXPLAIN
 };
 
@@ -653,7 +658,7 @@ pub(crate) const JOBS: [Job; 9] = [
     },
     Job {
         name: JobName::Plan,
-        about: "Finds a schedule that meets the deadlines of the streams in a table, and writes its tc line",
+        about: "Finds schedules that meet the deadlines of the streams in a table or a network, and writes their tc lines",
         words: &[
             RATE,
             MTU,
@@ -665,7 +670,7 @@ pub(crate) const JOBS: [Job; 9] = [
             BASE_TIME,
             SHARE,
             EXPLAIN_PLAN,
-            TABLE,
+            TABLE_OR_NETWORK,
         ],
     },
     Job {

@@ -1,11 +1,7 @@
 //! In which order the ports of a network are planned.
 
-ghost use Rattle.std.specs.Prelude.{◌≡◌, IfErr};
-ghost use Rattle.job.specs.declared.fault.Fault.TheVariants as Faults;
-
-use crate::faults::PlanFault;
 use network::network_table::Network;
-use std::alloc::Global;
+use std::alloc::{AllocError, Global};
 
 /// The ports that have a plan.
 #[derive(Drop)]
@@ -22,12 +18,10 @@ impl Done {
     }
 
     /// One more.
-    pub fn add(&mut self, port: usize) -> Result<(), PlanFault>
-        ensures { IfErr result (λ why. why ≡ Faults.Memory) }
-    {
+    pub fn add(&mut self, port: usize) -> Result<(), AllocError> {
         match self.ports.push(port) {
             Ok(()) => Ok(()),
-            Err(_) => Err(PlanFault::Memory),
+            Err(_) => Err(AllocError),
         }
     }
 

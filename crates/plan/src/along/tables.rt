@@ -131,7 +131,7 @@ fn deadline_at(
 }
 
 /// A stream whose offset has this time in it, without that: a whole number of periods later where it would come before
-/// moment zero.
+/// that.
 fn without(stream: &Stream, since: u128) -> Stream {
     let offset = match stream.offset {
         None => None,
@@ -183,10 +183,13 @@ pub(crate) fn table_at(
         return Ok(Err(Reason::Cycle));
     };
     let streams = streams_of(alloc, text.as_slice())?;
+    // (a plan counts from its base time)
+    let before = u128::from(settings.base_time).saturating_mul(1000);
+    let before = before.saturating_add(since);
     let mut table = Vec::new(alloc);
     for stream in streams.as_slice() {
         let deadline = deadline_at(network, port, split, stream, since);
-        put_timed(&mut table, &without(stream, since), deadline)?;
+        put_timed(&mut table, &without(stream, before), deadline)?;
     }
     Ok(Ok(table))
 }
