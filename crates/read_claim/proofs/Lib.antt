@@ -1,6 +1,7 @@
 mod MadeLaws
 mod NetLaws
 mod PortLaws
+mod RunLaws
 mod SaidLaws
 mod ScriptLaws
 mod StreamLaws

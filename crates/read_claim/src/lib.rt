@@ -1,10 +1,11 @@
 //! What is found of the ways of a network's streams holds in every run, of each network that is read.
 //!
 //! There is nothing to run here. The claim is specs/ReadClaim.antt: it asks of a network that its text has no fault and
-//! that no port refuses its schedule, and of what is found that all classes were judged.
+//! that no port refuses its schedule, and of what is known that all classes were judged. So it is with all that `paths`
+//! answers.
 #![tactic(auto)]
 
-ghost use Rattle.read_claim.specs.ReadClaim.{MadeReadLaw, MadeWaysLaw, ReadClaim};
+ghost use Rattle.read_claim.specs.ReadClaim.{MadeReadLaw, MadeWaysLaw, ReadClaim, RunClaim};
 
 use stream_bounds::BoundsSettings;
 
@@ -20,8 +21,10 @@ pub fn made_law(settings: &BoundsSettings)
 }
 
 /// What is found of a network that is read holds in every run: classes with bounds keep time, and frames end as is told.
+/// So a run of `paths` stops where a call fails, or ends with a fault of its inputs, or writes what holds.
 pub fn read_claim(settings: &BoundsSettings)
-    ensures { ReadClaim settings.now }
+    ensures each { ReadClaim settings.now }
+    ensures runs { RunClaim settings.now }
 {
     made_law(settings);
     path_claim::found_claim();
