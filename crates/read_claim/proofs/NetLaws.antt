@@ -43,8 +43,8 @@ spent_push [] s = omega arith
 spent_push (x ∷ streams) s = (let more = spent_push streams s in omega (arith, more))
 
 -- a network that is read, of which so much is spent
-abbrev Holds : ℕ → Net → Type 0
-Holds count net = IsReadNet net × (spent net.streams ≤ count)
+abbrev IsWithin : ℕ → Net → Type 0
+IsWithin count net = IsReadNet net × (spent net.streams ≤ count)
 
 -- ---- names
 
@@ -132,9 +132,9 @@ with_link number least greatest net from to = record net {
 abbrev with_clocks : ℕ → ℕ → Net → Net
 with_clocks number difference net = record net { clocks = Some (record { difference = difference; line = number }) }
 
-module _ (number count : ℕ) (net next : Net) (now : Holds count net) where
+module _ (number count : ℕ) (net next : Net) (now : IsWithin count net) where
   abbrev after : ℕ → Type 0
-  after more = Holds (count + more) next
+  after more = IsWithin (count + more) next
 
   kept : (more : ℕ) → spent net.streams ≤ count + more
   kept more = (let le = now.1 in omega (arith, le))
@@ -142,39 +142,48 @@ module _ (number count : ℕ) (net next : Net) (now : Holds count net) where
   setting_law : (more : ℕ) (values : PortValues) (at : List (List ℕ) × ℕ) → HasRate values → IsNamed net.names at
       → unless_said (setting_line at.1 net.settings) Faults.SecondPort (with_setting number values net at) ≡ Ok next → after more
   setting_law more values at rate named e =
-      subst (Holds (count + more)) (unless_law (setting_line at.1 net.settings) Faults.SecondPort (with_setting number values net at) next e) (record {
-        settings = All-push (λ (s : PortSetting). HasRate s.values) net.settings (record { port = at.1; values = values; line = number })
-        (now.0).settings rate;
-        links = (now.0).links;
-        clocks = (now.0).clocks;
-        streams = (now.0).streams;
-        ways = grown (length net.names) (length at.0) net.ways named.grows (now.0).ways;
-      }, kept more)
+      subst (IsWithin (count + more)) (unless_law (setting_line at.1 net.settings) Faults.SecondPort (with_setting number values net at) next e) (
+        record {
+          settings = All-push (λ (s : PortSetting). HasRate s.values) net.settings (record { port = at.1; values = values; line = number })
+              (now.0).settings rate;
+          links = (now.0).links;
+          clocks = (now.0).clocks;
+          streams = (now.0).streams;
+          ways = grown (length net.names) (length at.0) net.ways named.grows (now.0).ways;
+        },
+        kept more,
+      )
 
   link_law : (more least greatest : ℕ) (from to : List (List ℕ) × ℕ) → least ≤ greatest_moment → IsNamed net.names from → IsNamed from.0 to
       → unless_said (link_line from.1 to.1 net.links) Faults.SecondLink (with_link number least greatest net from.1 to) ≡ Ok next → after more
   link_law more least greatest from to le one two e =
       let first = one.grows in
       let second = two.grows in
-      subst (Holds (count + more))
-      (unless_law (link_line from.1 to.1 net.links) Faults.SecondLink (with_link number least greatest net from.1 to) next e) (record {
-        settings = (now.0).settings;
-        links = All-push (λ (l : NetworkLink). l.least ≤ greatest_moment) net.links
-        (record { from = from.1; to = to.1; least = least; greatest = greatest; line = number }) (now.0).links le;
-        clocks = (now.0).clocks;
-        streams = (now.0).streams;
-        ways = grown (length net.names) (length to.0) net.ways (omega (arith, first, second)) (now.0).ways;
-      }, kept more)
+      subst (IsWithin (count + more))
+      (unless_law (link_line from.1 to.1 net.links) Faults.SecondLink (with_link number least greatest net from.1 to) next e) (
+        record {
+          settings = (now.0).settings;
+          links = All-push (λ (l : NetworkLink). l.least ≤ greatest_moment) net.links
+              (record { from = from.1; to = to.1; least = least; greatest = greatest; line = number }) (now.0).links le;
+          clocks = (now.0).clocks;
+          streams = (now.0).streams;
+          ways = grown (length net.names) (length to.0) net.ways (omega (arith, first, second)) (now.0).ways;
+        },
+        kept more,
+      )
 
   clocks_law : (more difference : ℕ) → difference ≤ greatest_moment → clocks_taken number difference net ≡ Ok next → after more
   clocks_law more difference le e =
-      subst (Holds (count + more)) (unless_law (line_of_clocks net.clocks) Faults.SecondClocks (with_clocks number difference net) next e) (record {
-        settings = (now.0).settings;
-        links = (now.0).links;
-        clocks = le;
-        streams = (now.0).streams;
-        ways = (now.0).ways;
-      }, kept more)
+      subst (IsWithin (count + more)) (unless_law (line_of_clocks net.clocks) Faults.SecondClocks (with_clocks number difference net) next e) (
+        record {
+          settings = (now.0).settings;
+          links = (now.0).links;
+          clocks = le;
+          streams = (now.0).streams;
+          ways = (now.0).ways;
+        },
+        kept more,
+      )
 
   stream_law : (octets : ℕ) (x : Stream) (way : Option (List (List ℕ))) → IsReadStream x → length (words_of_way way) ≤ octets
       → stream_taken number x way net ≡ Ok next → after (octets + 1)
@@ -186,19 +195,22 @@ module _ (number count : ℕ) (net next : Net) (now : Holds count net) where
       by : (to : List (List ℕ) × List ℕ) → IsWay (length (words_of_way way)) (net.names, net.ways) to
           → ◌≡◌ {A = Result Net NetworkFault} (Ok (stream_put number x (length net.ways) (record net { names = to.0; ways = to.1 }))) (Ok next) → after (octets + 1)
       by to is same =
-          subst (Holds (count + (octets + 1))) (same_ok (stream_put number x (length net.ways) (record net { names = to.0; ways = to.1 })) next same) (record {
-            settings = (now.0).settings;
-            links = (now.0).links;
-            clocks = (now.0).clocks;
-            streams = All-push (λ (s : NetworkStream). IsReadStream s.stream) net.streams
-            (record { stream = x; line = number; begin = length net.ways; hops = length to.1 - length net.ways }) (now.0).streams read;
-            ways = is.within;
-          }, counted (length net.ways) (length to.1) (length (words_of_way way)) octets count (spent net.streams) _
-          (spent_push net.streams (record { stream = x; line = number; begin = length net.ways; hops = length to.1 - length net.ways }))
-          is.longer le now.1)
+          subst (IsWithin (count + (octets + 1))) (same_ok (stream_put number x (length net.ways) (record net { names = to.0; ways = to.1 })) next same) (
+            record {
+              settings = (now.0).settings;
+              links = (now.0).links;
+              clocks = (now.0).clocks;
+              streams = All-push (λ (s : NetworkStream). IsReadStream s.stream) net.streams
+                  (record { stream = x; line = number; begin = length net.ways; hops = length to.1 - length net.ways }) (now.0).streams read;
+              ways = is.within;
+            },
+            counted (length net.ways) (length to.1) (length (words_of_way way)) octets count (spent net.streams) _
+                (spent_push net.streams (record { stream = x; line = number; begin = length net.ways; hops = length to.1 - length net.ways }))
+                is.longer le now.1,
+          )
 
   taken_law : (octets : ℕ) (said : Said) → IsReadSaid octets said → taken number net said ≡ Ok next → after (octets + 1)
-  taken_law octets Skipped read e = subst (Holds (count + (octets + 1))) (same_ok net next e) (now.0, kept (octets + 1))
+  taken_law octets Skipped read e = subst (IsWithin (count + (octets + 1))) (same_ok net next e) (now.0, kept (octets + 1))
   taken_law octets (OfPort said) read e =
       setting_law (octets + 1) said.values (mentioned net.names said.name) read (named_law net.names said.name) e
   taken_law octets (OfLink said) read e =
@@ -219,13 +231,13 @@ line_ok : (number : ℕ) (r : Result Net NetworkFault) (f : Net → Result Net B
 line_ok number (Ok x) f y e = (x, refl, e)
 line_ok number (Err fault) f y e = no_ok (bad_network number fault) y e
 
-more_room : (count n rest : ℕ) (net : Net) → Holds ((count + n) + rest) net → Holds (count + (n + rest)) net
+more_room : (count n rest : ℕ) (net : Net) → IsWithin ((count + n) + rest) net → IsWithin (count + (n + rest)) net
 more_room count n rest net h = (let le = h.1 in (h.0, omega (arith, le)))
 
-lines_law : (script : Script) (count : ℕ) (net all : Net) → Holds count net → lines_taken net script ≡ Ok all → Holds (count + weight script) all
+lines_law : (script : Script) (count : ℕ) (net all : Net) → IsWithin count net → lines_taken net script ≡ Ok all → IsWithin (count + weight script) all
 unfolding lines_taken
 lines_law End count net all now e =
-    subst (Holds (count + 0)) (same_ok net all e) (now.0, (let le = now.1 in omega (arith, le)))
+    subst (IsWithin (count + 0)) (same_ok net all e) (now.0, (let le = now.1 in omega (arith, le)))
 lines_law (Broken number limit) count net all now e = no_ok (bad_network number (Faults.Line (limit_fault limit))) all e
 lines_law (Line number octets rest) count net all now e =
     let got = line_ok number (line_taken number octets net) _ all e in
@@ -240,14 +252,17 @@ judged_law (Ok x) net e = by (first_of (bad_stream x) x.streams) e
     by (Some bad) is = no_ok bad net is
     by None is = is
 
-no_lines : Holds 0 no_net
-no_lines = (record {
-  settings = All-nil (λ (s : PortSetting). HasRate s.values);
-  links = All-nil (λ (l : NetworkLink). l.least ≤ greatest_moment);
-  clocks = omega arith;
-  streams = All-nil (λ (s : NetworkStream). IsReadStream s.stream);
-  ways = All-nil (λ (port : ℕ). port < 0);
-}, omega arith)
+no_lines : IsWithin 0 no_net
+no_lines = (
+  record {
+    settings = All-nil (λ (s : PortSetting). HasRate s.values);
+    links = All-nil (λ (l : NetworkLink). l.least ≤ greatest_moment);
+    clocks = omega arith;
+    streams = All-nil (λ (s : NetworkStream). IsReadStream s.stream);
+    ways = All-nil (λ (port : ℕ). port < 0);
+  },
+  omega arith,
+)
 
 -- The network is what lines may say, and its ways are few.
 pub net_law : (octets : List ℕ) (net : Net) → network_of (script_of octets) ≡ Ok net → IsReadNet net × (spent net.streams ≤ room 0)

@@ -159,7 +159,7 @@ module _ (s : BoundsSettings) (is : IsSetup s.port) (net : Net) (read : IsReadNe
         rate = (has.rate).1;
         mtu = has.mtu;
         since = since_law (plan_asked (change_by asked)) (lead_in net) (lead_law (min (clocks_of net.clocks * port_count net) (2 ^ 128 - 1)))
-        (refused_law own (change_by asked) got.0);
+            (refused_law own (change_by asked) got.0);
       })
 
   from_law : (count number : ℕ) (ports all : List PathPort) → All IsReadPort ports → ports_from s net kept count number ports ≡ Ok all

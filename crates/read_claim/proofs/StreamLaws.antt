@@ -124,7 +124,7 @@ said_law ws x e =
     let d = word_ok c.1 _ x c.2 in
     let f = word_ok d.1 _ x d.2 in
     let g = word_ok f.1 _ x f.2 in
-    let h = ends_ok (ends_in g.1) _ x g.2 in
+    let h = ends_ok (ends_in g.1) (λ ends. stream_in_words a.0 b.0 c.0 d.0 f.0 g.0 ends) x g.2 in
     in_words_law a.0 b.0 c.0 d.0 f.0 g.0 h.0 x h.2 (ends_law g.1 h.0 h.1)
 
 in_line_law : (r : Result Stream ScriptFault) (x : Stream) → in_line r ≡ Ok (Some x) → r ≡ Ok x

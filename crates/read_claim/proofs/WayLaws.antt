@@ -141,9 +141,10 @@ module _ (links : List NetworkLink) (timed : All (λ (l : NetworkLink). l.least 
     hops_law : (ports : List ℕ) (before : Option ℕ) → All (λ (port : ℕ). port < count) ports → All (IsHopBelow count) (hops_of links x number before ports)
     hops_law [] before all = All-nil (IsHopBelow count)
     hops_law (port ∷ ports) before all =
-        All-cons (IsHopBelow count) (way_hop x number before port (times_by links before port)) (hops_of links x number (Some port) ports)
-        (record { said = read.said; period = read.period; len = read.len; link = before_law before port },
-        short_below port count (All-head (λ (p : ℕ). p < count) port ports all) few)
+        All-cons (IsHopBelow count) (way_hop x number before port (times_by links before port)) (hops_of links x number (Some port) ports) (
+          record { said = read.said; period = read.period; len = read.len; link = before_law before port },
+          short_below port count (All-head (λ (p : ℕ). p < count) port ports all) few,
+        )
         (hops_law ports (Some port) (All-tail (λ (p : ℕ). p < count) port ports all))
 
 module _ (net : Net) (read : IsReadNet net) (count : ℕ) (named : length net.names ≤ count) (some : 0 < count) (few : count ≤ 65536) where

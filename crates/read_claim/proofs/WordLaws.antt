@@ -61,9 +61,22 @@ one_of (r ∷ all) mbps are is = by (or_cases (r == mbps) (list_any (λ r. r == 
     by (inr later) rest = rest later
 
 are_rates : AreRates rates
-are_rates =
-    ((omega arith, omega arith), ((omega arith, omega arith), ((omega arith, omega arith), ((omega arith, omega arith), ((omega arith, omega arith),
-    ((omega arith, omega arith), ((omega arith, omega arith), ((omega arith, omega arith), ((omega arith, omega arith), ((omega arith, omega arith), tt))))))))))
+are_rates = (
+  (omega arith, omega arith),
+  (
+    (omega arith, omega arith),
+    (
+      (omega arith, omega arith),
+      (
+        (omega arith, omega arith),
+        (
+          (omega arith, omega arith),
+          ((omega arith, omega arith), ((omega arith, omega arith), ((omega arith, omega arith), ((omega arith, omega arith), ((omega arith, omega arith), tt))))),
+        ),
+      ),
+    ),
+  ),
+)
 
 pub rate_law : (text : List ℕ) (n : ℕ) → rate_in text ≡ Some n → IsRate n
 rate_law text n e =
