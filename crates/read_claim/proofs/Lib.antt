@@ -1,0 +1,9 @@
+mod MadeLaws
+mod NetLaws
+mod PortLaws
+mod RunLaws
+mod SaidLaws
+mod ScriptLaws
+mod StreamLaws
+mod WayLaws
+mod WordLaws
