@@ -237,3 +237,32 @@ def case_tables_with_a_schedule_get_a_plan_third_quarter(program):
 
 def case_tables_with_a_schedule_get_a_plan_fourth_quarter(program):
     plans(program, 3)
+
+
+def shortened(entries, mask, rest):
+    """The entries, where each window of a class is shorter by a sixteenth, which is open to the others; None where no window is long enough."""
+    found = []
+    for opened, interval in entries:
+        less = interval // 16 if opened == mask else 0
+        found += [(opened, interval - less)] + [(rest, less)] * (less > 0)
+    return found if len(found) > len(entries) else None
+
+
+def case_windows_are_as_long_as_they_have_to_be(program):
+    """Of twelve tables the windows of no class can be shorter, all of them, with each deadline still met."""
+    with tempfile.TemporaryDirectory(prefix="taprio-plans-") as folder:
+        tried = 0
+        for seed in range(12):
+            world, _ = made_table(program, seed, folder)
+            line = run(program, ["plan", "--rate", str(world.rate), "table"], b"", folder).stdout.decode()
+            words = line.split()
+            entries = [(int(words[at + 2], 16), int(words[at + 3])) for at, word in enumerate(words) if word == "sched-entry"]
+            rest = next((mask for mask, _ in entries if mask & 1), 0)
+            for mask in {mask for mask, _ in entries} - {rest}:
+                shorter = shortened(entries, mask, rest)
+                if shorter and len(shorter) <= 256:
+                    text = line[: line.index(" sched-entry")] + "".join(f" sched-entry S {opened:02x} {interval}" for opened, interval in shorter)
+                    ran = run(program, ["bounds", "--strict", "--rate", str(world.rate), "table"], f"{text}\n".encode(), folder)
+                    assert ran.returncode == 1, (seed, mask, ran, text)
+                    tried += 1
+        assert tried > 20, tried
