@@ -2,6 +2,7 @@
 
 use crate::marks::{Hint, Span, put_hint, span_at, span_behind, span_of, word_at};
 use crate::near::nearest;
+use crate::pasted::pasted_word;
 use abstract_port::Refused;
 use abstract_port::class_map::{MapFault, QueueFault};
 use gates::gate_list::{GateFault, PlanFault};
@@ -179,8 +180,22 @@ fn gate_hint(line: &[u8], fault: GateFault) -> Hint {
     }
 }
 
+/// What helps with a word of a command that a shell takes for its own.
+fn shell_hint(line: &[u8], fault: TcFault) -> Option<Hint> {
+    match fault {
+        TcFault::UnknownOption(place) | TcFault::BadNumber(place) => {
+            let text = pasted_word(word_at(line, place)?)?;
+            Some(Hint::marked(span_at(line, place), text))
+        }
+        _ => None,
+    }
+}
+
 /// What helps with a line that is no command.
 fn malformed_hint(line: &[u8], fault: TcFault) -> Hint {
+    if let Some(hint) = shell_hint(line, fault) {
+        return hint;
+    }
     match fault {
         TcFault::NotTaprio => no_taprio(line),
         TcFault::MissingWord(option) => { Hint::marked(Some(span_behind(line)), missing(option)) }
@@ -248,7 +263,7 @@ fn refused_hint(line: &[u8], why: Refused) -> Hint {
         ),
         Refused::Schedule(fault) => plan_hint(line, fault),
         Refused::Busy(_) => Hint::plain(
-            b"the command before it is still announced: the number is the moment, in ps, from which on another is accepted",
+            b"the command before it is still announced: the number is the moment, in ps, from which on another is accepted; all devices are one port here",
         ),
     }
 }

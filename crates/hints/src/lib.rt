@@ -9,6 +9,7 @@ mod fault_hints;
 mod linux;
 mod marks;
 mod near;
+mod pasted;
 mod script_words;
 mod sharers;
 mod warnings;

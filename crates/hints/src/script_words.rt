@@ -2,6 +2,7 @@
 
 use crate::marks::{Hint, Span, span_at, span_behind, span_of, word_at};
 use crate::near::nearest;
+use crate::pasted::pasted_front;
 use text::times::time;
 use text::words::{Words, number};
 use wire_time::MAX_MOMENT;
@@ -273,6 +274,9 @@ pub(crate) fn unknown_line(line: &[u8], of_table: bool) -> Hint {
     let span = span_at(line, 0);
     if word == b"$".as_slice() || word == b"#".as_slice() {
         return Hint::marked(span, b"a prompt was pasted: leave it out");
+    }
+    if let Some(text) = pasted_front(line, word) {
+        return Hint::marked(span, text);
     }
     if of_table {
         return Hint {
