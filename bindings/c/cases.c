@@ -8,6 +8,7 @@
 _Static_assert(sizeof(size_t) == 8, "a pointer has 64 bits");
 _Static_assert(sizeof(struct taprio_port_values) == 40, "no padding");
 _Static_assert(sizeof(struct taprio_picture_values) == 48, "no padding");
+_Static_assert(sizeof(struct taprio_plan_values) == 32, "no padding");
 _Static_assert(sizeof(struct taprio_ran) == 24 && offsetof(struct taprio_ran, status) == 16, "padding at the end alone");
 _Static_assert(sizeof(struct taprio_port) == 16 && _Alignof(struct taprio_port) == 8, "a port's place");
 _Static_assert(sizeof(struct taprio_frame) == 16 && offsetof(struct taprio_frame, tagged) == 13, "padding at the end alone");
@@ -88,7 +89,7 @@ static int begins(struct octets slice, struct octets with) {
     return slice.length >= with.length && memcmp(slice.at, with.at, with.length) == 0 && is_untouched(slice, with.length);
 }
 
-enum job { RUN, FRAMES, FRAMES_BY_STREAM, FRAMES_OF_CAPTURE, CHECK, CHECK_SHARES, STREAMS, STREAMS_FROM, BOUNDS, BOUNDS_SLACK, BOUNDS_ASKED, PATHS, DRAW };
+enum job { RUN, FRAMES, FRAMES_BY_STREAM, FRAMES_OF_CAPTURE, CHECK, CHECK_SHARES, STREAMS, STREAMS_FROM, BOUNDS, BOUNDS_SLACK, BOUNDS_ASKED, PATHS, PLAN, DRAW };
 
 struct call {
     enum job job;
@@ -96,7 +97,8 @@ struct call {
     struct taprio_picture_values shown; /* of STREAMS_FROM its beginning */
     uint32_t windows; /* of BOUNDS_ASKED and PATHS what is asked */
     uint64_t frames;
-    struct octets input, second;
+    struct octets input, second; /* of PLAN the table, and the device */
+    struct taprio_plan_values plan;
 };
 
 static struct taprio_ran call(const struct call *c, struct octets output, struct octets fault) {
@@ -147,6 +149,10 @@ static struct taprio_ran call(const struct call *c, struct octets output, struct
     case PATHS:
         taprio_paths(&c->values, c->frames, c->windows, c->input.at, c->input.length, c->second.at, c->second.length, output.at,
                      output.length, fault.at, fault.length, &ran);
+        break;
+    case PLAN:
+        taprio_plan(&c->values, &c->plan, c->second.at, c->second.length, c->input.at, c->input.length, output.at, output.length,
+                    fault.at, fault.length, &ran);
         break;
     default:
         taprio_draw(&c->values, &c->shown, c->input.at, c->input.length, output.at, output.length, fault.at, fault.length, &ran);
@@ -602,6 +608,55 @@ static void paths(void) {
     free(brief.at);
 }
 
+#define TC "tc qdisc replace dev "
+#define ONE_CLASS " parent root handle 100 taprio num_tc 2 map 0 0 0 0 0 0 0 1 0 0 0 0 0 0 0 0 queues 1@0 1@1 base-time "
+
+/* plans for a table and for a network, where there is none, and values that are bad */
+static void plans(void) {
+    static const char table[] = "stream 1 7 60 250us 20us 1 deadline 20us\n";
+    struct octets device = text("swp3"), none = text("");
+    struct call c = {PLAN, usual, whole, 0, 0, {0}, device, TAPRIO_PLAN_VALUES};
+    small("a plan", c, table, TAPRIO_DONE,
+          TC "swp3" ONE_CLASS "0 cycle-time 250000 sched-entry S 01 20000 sched-entry S 02 672 sched-entry S 01 229328 clockid CLOCK_TAI\n", "");
+    c.plan.cycle = 125000;
+    c.plan.base_time = 250000;
+    c.plan.least_interval = 1000;
+    small("a plan with values", c, table, TAPRIO_DONE,
+          TC "swp3" ONE_CLASS "250000 cycle-time 125000 sched-entry S 01 20000 sched-entry S 02 1000 sched-entry S 01 104000 clockid CLOCK_TAI\n",
+          "");
+    c.plan.entries = 2;
+    small("a plan with two entries", c, table, TAPRIO_DONE,
+          TC "swp3" ONE_CLASS "250000 cycle-time 125000 sched-entry S 02 21000 sched-entry S 01 104000 clockid CLOCK_TAI\n", "");
+    c.plan = (struct taprio_plan_values)TAPRIO_PLAN_VALUES;
+    small("a plan for a port of a network", c, "stream 1 7 60 250us 20us 1 deadline 20us via a\n", TAPRIO_DONE,
+          TC "a" ONE_CLASS "0 cycle-time 250000 sched-entry S 01 20000 sched-entry S 02 672 sched-entry S 01 229328 clockid CLOCK_TAI\n", "");
+    small("no plan", c, "stream 1 7 60 250us 20us 1 deadline 1ns\n", TAPRIO_NO_PLAN, "none deadline 1\n",
+          "taprio_port: plan: no schedule is found\n");
+    small("a plan, and a bad line", c, "streams\n", TAPRIO_BAD_INPUT, "", "taprio_port: table line 1: UnknownLine\n");
+    small("a plan, and a bad line of a network", c, "link a b\n", TAPRIO_BAD_INPUT, "", "taprio_port: network line 1: WordCount\n");
+    struct call bad = c;
+    bad.plan.cycle = 4294967296;
+    small("a plan, and a long cycle", bad, table, TAPRIO_BAD_VALUE, "", "taprio_port: bad value of --cycle\n");
+    bad = c;
+    bad.plan.entries = 257;
+    small("a plan, and many entries", bad, table, TAPRIO_BAD_VALUE, "", "taprio_port: bad value of --entries\n");
+    bad.plan.entries = 0;
+    small("a plan, and no entries", bad, table, TAPRIO_BAD_VALUE, "", "taprio_port: bad value of --entries\n");
+    bad = c;
+    bad.plan.least_interval = 4294967296;
+    small("a plan, and long entries", bad, table, TAPRIO_BAD_VALUE, "", "taprio_port: bad value of --least-interval\n");
+    bad = c;
+    bad.plan.base_time = 1ull << 63;
+    small("a plan, and a late base time", bad, table, TAPRIO_BAD_VALUE, "", "taprio_port: bad value of --base-time\n");
+    bad = c;
+    bad.second = none;
+    small("a plan, and no device", bad, table, TAPRIO_BAD_VALUE, "", "taprio_port: bad value of --device\n");
+    bad.values.mtu = 0;
+    small("a plan, and no mtu", bad, table, TAPRIO_BAD_VALUE, "", "taprio_port: bad value of --mtu\n");
+    free(device.at);
+    free(none.at);
+}
+
 /* null pointers with length 0, in the place of each slice: the calls ask for room, or do what they do without octets */
 static void nulls(void) {
     struct taprio_ran ran;
@@ -892,6 +947,7 @@ int main(int count, char **words) {
     bounds();
     bounds_asked();
     paths();
+    plans();
     frames();
     frames_by_stream();
     frames_of_capture();

@@ -9,6 +9,7 @@
  * It reads its inputs, writes into the slices that it is given, and reports how it ended in `ran`. Its status is
  *
  *   TAPRIO_DONE       0  the whole output stands at the front of its slice; there is no text of a fault (`fault` of `ran` is 0)
+ *   TAPRIO_NO_PLAN    1  of taprio_plan: no schedule is found; why stands at the front of the output, and a text at the front of `fault`
  *   TAPRIO_BAD_VALUE  2  a value is out of its limits: its text stands at the front of `fault`, and there is no output
  *   TAPRIO_BAD_INPUT  3  an input has a fault: its text stands at the front of `fault`, and what the job writes before the
  *                        fault is reported at the front of the output
@@ -19,7 +20,7 @@
  * What lies behind the text in a slice stays as it was. The texts of faults are those that the program writes on its standard
  * error: they begin with "taprio_port: " and end with a newline, without a NUL. Formats: docs/reference/script.md, docs/reference/tc.md,
  * docs/reference/frames.md, docs/reference/check.md, docs/reference/streams.md, docs/reference/bounds.md, docs/reference/paths.md,
- * docs/reference/draw.md, docs/reference/replay.md.
+ * docs/reference/plan.md, docs/reference/draw.md, docs/reference/replay.md.
  *
  * What a caller has to keep
  * -------------------------
@@ -56,6 +57,7 @@ const char *taprio_version(void);
 
 enum taprio_status {
     TAPRIO_DONE = 0,
+    TAPRIO_NO_PLAN = 1,
     TAPRIO_BAD_VALUE = 2,
     TAPRIO_BAD_INPUT = 3,
     TAPRIO_NO_MEMORY = 4,
@@ -89,6 +91,17 @@ struct taprio_picture_values {
 };
 
 #define TAPRIO_PICTURE_VALUES {UINT64_MAX, UINT64_MAX, 0, 0, 0, 1200, 0}
+
+/* What a plan is made for; 32 octets. The program's values where no words are given: TAPRIO_PLAN_VALUES. */
+struct taprio_plan_values {
+    uint64_t cycle;          /* nanoseconds, 1 to 4294967295; 0: one that suits the periods */
+    uint64_t least_interval; /* nanoseconds that each entry has at the least, 0 to 4294967295 */
+    uint64_t base_time;      /* nanoseconds, at most 2^63 - 1 */
+    uint32_t entries;        /* how many there are at most, 1 to 256 */
+    uint32_t share;          /* 0: no; else classes without deadlines may use what the windows of higher ones leave */
+};
+
+#define TAPRIO_PLAN_VALUES {0, 0, 0, 256, 0}
 
 /* How a call ended; 24 octets. */
 struct taprio_ran {
@@ -211,6 +224,14 @@ void taprio_bounds_asked(const struct taprio_port_values *values, uint64_t frame
 void taprio_paths(const struct taprio_port_values *values, uint64_t frames, uint32_t asked, const uint8_t *network,
                   size_t network_length, const uint8_t *schedules, size_t schedules_length, uint8_t *output, size_t output_length,
                   uint8_t *fault, size_t fault_length, struct taprio_ran *ran);
+
+/* Finds a schedule by which the streams of a table make their deadlines, or one for each port of a network, as `taprio_port plan` does: its
+ * `tc` line, or one line for each port. `device` is the name of the device, 1 to 15 octets such as "eth0", where the table names no port.
+ * `until` and `summary` of the values are as for taprio_bounds. At TAPRIO_NO_PLAN the output says why there is none, and at
+ * TAPRIO_BAD_INPUT there is none. */
+void taprio_plan(const struct taprio_port_values *values, const struct taprio_plan_values *asked, const uint8_t *device,
+                 size_t device_length, const uint8_t *table, size_t table_length, uint8_t *output, size_t output_length,
+                 uint8_t *fault, size_t fault_length, struct taprio_ran *ran);
 
 /* Draws the run of a script as an SVG picture, as `taprio_port draw` does. The run goes on to `until`, where it is given. There is no output at
  * TAPRIO_BAD_INPUT. */
@@ -354,6 +375,14 @@ static inline void taprio_paths_or_null(const struct taprio_port_values *values,
                  taprio_lent(output), output_length, taprio_lent(fault), fault_length, ran);
 }
 
+static inline void taprio_plan_or_null(const struct taprio_port_values *values, const struct taprio_plan_values *asked,
+                                       const uint8_t *device, size_t device_length, const uint8_t *table, size_t table_length,
+                                       uint8_t *output, size_t output_length, uint8_t *fault, size_t fault_length,
+                                       struct taprio_ran *ran) {
+    taprio_plan(values, asked, taprio_octets(device), device_length, taprio_octets(table), table_length, taprio_lent(output),
+                output_length, taprio_lent(fault), fault_length, ran);
+}
+
 static inline void taprio_draw_or_null(const struct taprio_port_values *values, const struct taprio_picture_values *shown,
                                        const uint8_t *script, size_t script_length, uint8_t *output, size_t output_length,
                                        uint8_t *fault, size_t fault_length, struct taprio_ran *ran) {
@@ -394,6 +423,7 @@ static inline void taprio_replay_stamped_or_null(const struct taprio_port_values
 #define taprio_bounds_slack taprio_bounds_slack_or_null
 #define taprio_bounds_asked taprio_bounds_asked_or_null
 #define taprio_paths taprio_paths_or_null
+#define taprio_plan taprio_plan_or_null
 #define taprio_draw taprio_draw_or_null
 #define taprio_replay taprio_replay_or_null
 #define taprio_replay_stamped taprio_replay_stamped_or_null

@@ -1,3 +1,4 @@
 mod BoundsLaws
 mod PathsLaws
 pub mod PictureLaws
+mod PlanLaws

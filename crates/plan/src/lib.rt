@@ -20,7 +20,7 @@ mod settings;
 
 pub use faults::{PlanFault, PlanInput};
 pub use octets::MAX_OCTETS;
-pub use plan_job::{answer_plan, end_with_plan_value, plan_given};
+pub use plan_job::{answer_plan, bad_value, end_with_plan_value, plan_given};
 pub use plans::plan;
 pub use reasons::Reason;
-pub use settings::{PlanSettings, PlanValue, PlanWords};
+pub use settings::{PlanSettings, PlanValue, PlanWords, say_plan_value};

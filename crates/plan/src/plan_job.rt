@@ -36,7 +36,7 @@ fn read_time(text: &str, least: u64) -> Option<u64> {
     let most = u128::from(LONGEST).saturating_mul(1000);
     let time = time(text.as_bytes(), most)?;
     let ns = (time / 1000).min(u128::from(u64::MAX)) as u64;
-    if time % 1000 == 0 && ns >= least {
+    if time % 1000 == 0 && is_interval(ns, least) {
         Some(ns)
     } else {
         None
@@ -86,10 +86,7 @@ fn read_device<'a>(text: Option<&'a str>) -> Option<&'a [u8]> {
         return Some(DEVICE);
     };
     let octets = name.as_bytes();
-    if octets.is_empty() || octets.len() > 15 || name == "." || name == ".." {
-        return None;
-    }
-    if octets.iter().all(|octet| is_of_name(*octet)) {
+    if is_device(octets) {
         Some(octets)
     } else {
         None
@@ -141,6 +138,41 @@ pub fn plan_given<'a>(words: &PlanWords<'a>) -> Result<PlanSettings<'a>, PlanVal
         share: words.share,
         explain: words.explain,
     })
+}
+
+/// Whether a time of nanoseconds is one of an interval, from so many up.
+fn is_interval(time: u64, least: u64) -> bool {
+    least <= time && time <= LONGEST
+}
+
+/// Whether octets are the name of a device.
+fn is_device(octets: &[u8]) -> bool {
+    !octets.is_empty()
+        && octets.len() <= 15
+        && octets != b".".as_slice()
+        && octets != b"..".as_slice()
+        && octets.iter().all(|octet| is_of_name(*octet))
+}
+
+/// The first value of settings that is out of its limits, but for those of the port.
+pub fn bad_value(settings: &PlanSettings<'_>) -> Option<PlanValue> {
+    let cycle_fits = match settings.cycle {
+        Some(cycle) => is_interval(cycle, 1),
+        None => true,
+    };
+    if !cycle_fits {
+        Some(PlanValue::Cycle)
+    } else if settings.entries == 0 || settings.entries > MAX_ENTRIES {
+        Some(PlanValue::Entries)
+    } else if !is_interval(settings.least, 0) {
+        Some(PlanValue::Least)
+    } else if !is_device(settings.device) {
+        Some(PlanValue::Device)
+    } else if settings.base_time > MAX_BASE_NS {
+        Some(PlanValue::Base)
+    } else {
+        None
+    }
 }
 
 /// Reports a bad value on `errors`, and gives the writer of the answers back. Nothing is answered.

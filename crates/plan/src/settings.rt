@@ -97,7 +97,7 @@ impl PlanValue {
 }
 
 /// Writes the text of a bad value. The exit status that goes with it is 2, also where that write fails.
-pub(crate) fn say_plan_value<W: Write>(value: &PlanValue, writer: &mut W) -> Ended
+pub fn say_plan_value<W: Write>(value: &PlanValue, writer: &mut W) -> Ended
     ensures status { result.status ≡ 2 }
     ensures told { IsTold result.told (W.contents writer.old) (W.contents writer.new)
         (plan_value_text value.now) }

@@ -19,6 +19,7 @@ ghost use Rattle.in_memory.specs.Bounds.{AnswersBounds, bounds_settings_at};
 ghost use Rattle.in_memory.specs.Paths.{AnswersPaths};
 ghost use Rattle.in_memory.specs.Captures.{Replays, outputs, told_by_replay};
 ghost use Rattle.in_memory.specs.Pictures.{DrawsWith, options_at};
+ghost use Rattle.in_memory.specs.Plans.{AnswersPlan};
 ghost use Rattle.in_memory.specs.Slices.{Answers, slices, told_by, told_of};
 ghost use Rattle.in_memory.specs.Values.{from_at, rate_at, settings_at};
 ghost use Rattle.replay.specs.Outcome.{ReadsAs, outcome_of as replay_outcome_of};
@@ -38,17 +39,17 @@ ghost use Rattle.traffic.specs.Plan.{timed_from};
 ghost use Rattle.traffic.specs.declared.plan.Timing.TheVariants.{Drawn, Earliest, Latest};
 
 use crate::values::{
-    asked_of, is_wanted, moment_of, moment_said, picture_values, port_values, stamp_of,
+    asked_of, is_wanted, moment_of, moment_said, picture_values, plan_values, port_values, stamp_of,
 };
 use in_memory::{
     Ran, ReplayRan, bounds_octets, check_octets, draw_octets, frames_by_stream_octets,
-    frames_octets, frames_of_capture_octets, paths_octets, replay_octets, run_octets,
+    frames_octets, frames_of_capture_octets, paths_octets, plan_octets, replay_octets, run_octets,
     streams_octets,
 };
 use replay::Stamp;
 use std::alloc::Global;
 use traffic::Timing;
-pub use values::{CMoment, CPictureValues, CPortValues};
+pub use values::{CMoment, CPictureValues, CPlanValues, CPortValues};
 
 /// Runs a script: its answers come into `output`, and the text of a fault into `fault`; how it ended is written to
 /// `ran`.
@@ -398,6 +399,26 @@ pub extern "C" fn taprio_paths(
         output,
         fault,
     );
+}
+
+/// Finds a schedule by which the streams of a table make their deadlines, or one for each port of a network. The device is
+/// that of the line where the table names no port.
+#[unsafe(no_mangle)]
+pub extern "C" fn taprio_plan(
+    alloc: Global,
+    values: &CPortValues,
+    asked: &CPlanValues,
+    device: &[u8],
+    table: &[u8],
+    output: &mut [u8],
+    fault: &mut [u8],
+    ran: &mut Ran,
+)
+    ensures { AnswersPlan (settings_at (port_values values.now)) table.now ran.new
+        (slices output.old fault.old) (slices output.new fault.new) }
+{
+    let asked = plan_values(asked, device);
+    *ran = plan_octets(alloc, port_values(values), asked, table, output, fault);
 }
 
 /// Draws the run of a script as an SVG picture.

@@ -4,7 +4,7 @@ ghost use Rattle.std.specs.Prelude.{◌≡◌, ◌≤◌, IfSome};
 ghost use Rattle.wire_time.specs.Moment.{greatest_moment};
 ghost use Rattle.taprio_c.specs.FromC.{asked_of, is_wanted, moment_of, moment_said, moment_told, moment_unless_none, moment_where, picture_values, port_values, stamp_of};
 
-use in_memory::{BoundsAsked, PictureValues, PortValues};
+use in_memory::{BoundsAsked, PictureValues, PlanValues, PortValues};
 use replay::Stamp;
 use text::times::moment;
 use wire_time::MAX_MOMENT;
@@ -53,6 +53,22 @@ pub struct CPictureValues {
     pub width: u32,
     /// Nothing: it fills the last eight octets.
     pub unused: u32,
+}
+
+/// What a plan is made for.
+#[repr(C)]
+#[derive(Clone, Copy, Debug, PartialEq, Eq)]
+pub struct CPlanValues {
+    /// The cycle, in nanoseconds; 0: one that suits the periods.
+    pub cycle: u64,
+    /// How long each entry is at the least, in nanoseconds.
+    pub least_interval: u64,
+    /// The base time, in nanoseconds.
+    pub base_time: u64,
+    /// How many entries a schedule has at most.
+    pub entries: u32,
+    /// Whether classes without deadlines may use what the windows of higher ones leave: 0 no, else yes.
+    pub share: u32,
 }
 
 /// What a word says as a moment.
@@ -126,6 +142,23 @@ pub fn port_values(values: &CPortValues) -> PortValues
         room: values.room,
         until: moment_where(values.has_until, values.until_low, values.until_high),
         summary: is_wanted(values.summary),
+    }
+}
+
+/// What a plan is made for, with the name of the device.
+pub fn plan_values<'a>(values: &CPlanValues, device: &'a [u8]) -> PlanValues<'a> {
+    let cycle = if values.cycle == 0 {
+        None
+    } else {
+        Some(values.cycle)
+    };
+    PlanValues {
+        cycle,
+        entries: values.entries as usize,
+        least: values.least_interval,
+        base_time: values.base_time,
+        share: is_wanted(values.share),
+        device,
     }
 }
 
