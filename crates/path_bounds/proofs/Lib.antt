@@ -1,3 +1,4 @@
+pub mod CutLaws
 pub mod PassLaws
 pub mod PickLaws
 pub mod StartLaws

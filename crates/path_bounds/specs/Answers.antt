@@ -2,9 +2,10 @@
 --
 -- Whatever comes of a class that shares no window, or of a lower one, makes no difference but by how long its frames are. So a stream of which
 -- nothing is known yet may stand in the table as its talker sends it.
-use Rattle.std.specs.Prelude.{◌≡◌, ℕ, ◌+◌, ◌-◌, ◌*◌, zero, suc, ◌&&◌, ◌||◌, nat_lt, not, Bool, true, false, List, [], ◌∷◌, filter, length, map, Option, Some, None, is_some, slice_get, slice_index_or, unwrap_or, if◌then◌else◌}
+use Rattle.std.specs.Prelude.{◌≡◌, ℕ, ◌+◌, ◌-◌, ◌*◌, ◌^◌, zero, suc, ◌&&◌, ◌||◌, nat_lt, not, Bool, true, false, List, [], ◌∷◌, filter, length, map, Option, Some, None, is_some, slice_get, slice_index_or, unwrap_or, if◌then◌else◌}
 use Rattle.std.specs.List.{list_any}
 use Rattle.abstract_port.specs.AbstractPort.{plan_asked}
+use Rattle.delay_bounds.specs.declared.Bound.{Bound}
 use Rattle.gates.specs.Gate.{Plan, keeps_apart}
 use Rattle.shared_bounds.specs.Sharing.{Share}
 use Rattle.stream_bounds.specs.Classes.{has_any}
@@ -83,6 +84,15 @@ IsAnswerBy true p table above (x ∷ streams) class answer =
 IsAnswerBy false p table above (x ∷ streams) class answer =
     IsSharedAnswer p.settings p.change table above (x ∷ streams) class answer
 
+-- a bound is what 128 bits hold at most: so it may be cut off there
+abbrev pub is_cut : Bound → Bool
+is_cut b = not (nat_lt b.greatest (2 ^ 128 - 1))
+
+-- An answer that is found is used as it is, with its verdict. Where one of its bounds may be cut off it is as if nothing were known.
+abbrev pub IsUsed : (cut : Bool) → (found answer : ClassAnswer) → PairVerdict → Type 0
+IsUsed true found answer verdict = (answer ≡ unbounded Verdicts.Idle) × (verdict ≡ PairVerdicts.Unheard)
+IsUsed false found answer verdict = (answer ≡ found) × (verdict ≡ PairVerdicts.Known answer.verdict)
+
 module _ (p : PathPort) (port class : ℕ) (hops : List Hop) (verdicts : List (Option PairVerdict)) (shares : List Bool) where
   abbrev pub IsPairAnswer : ClassAnswer → Type 0
   IsPairAnswer answer =
@@ -96,7 +106,8 @@ module _ (p : PathPort) (port class : ℕ) (hops : List Hop) (verdicts : List (O
   -- the answer, and the verdict
   abbrev pub IsJudgedAs : Bool → ClassAnswer → PairVerdict → Type 0
   IsJudgedAs true answer verdict = (answer ≡ unbounded Verdicts.Idle) × (verdict ≡ PairVerdicts.Unheard)
-  IsJudgedAs false answer verdict = IsPairAnswer answer × (verdict ≡ PairVerdicts.Known answer.verdict)
+  IsJudgedAs false answer verdict =
+      (found : ClassAnswer) × IsPairAnswer found × IsUsed (list_any is_cut found.left) found answer verdict
 
   -- 4. When it can be judged
 

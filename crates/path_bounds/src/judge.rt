@@ -1,11 +1,15 @@
 //! The classes of all ports, one after another.
 
 ghost use Rattle.std.specs.Prelude.{◌≡◌, ◌<◌, ◌≤◌, ◌*◌, ◌++◌, ◌∷◌, [], All, IfErr, IfOk, None, Some, length, replicate, slice_get, slice_set};
+ghost use Rattle.std.specs.List.{list_any};
 ghost use Rattle.job.specs.declared.fault.Fault.TheVariants as Faults;
-ghost use Rattle.path_bounds.specs.Answers.{IsJudgedAs, IsPairAnswer, is_lacking, pair_of};
+ghost use Rattle.path_bounds.specs.Answers.{IsJudgedAs, IsPairAnswer, IsUsed, is_cut, is_lacking, pair_of};
 ghost use Rattle.path_bounds.specs.Hops.{IsHop, IsPort};
 ghost use Rattle.path_bounds.specs.Judged.{AreJudged, AreLooked, IsNext, class_in, port_in, unjudged};
 ghost use Rattle.path_bounds.specs.declared.judge.TheConstants.{MOST_PORTS};
+ghost use Rattle.path_bounds.specs.declared.standings.PairVerdict.TheVariants as PairVerdicts;
+ghost use Rattle.stream_bounds.specs.Verdicts.{unbounded};
+ghost use Rattle.stream_bounds.specs.declared.verdicts.Verdict.TheVariants as Verdicts;
 ghost use Rattle.wire_time.specs.declared.TheConstants.{CLASSES};
 
 use crate::hop::{Hop, PathPort};
@@ -14,6 +18,7 @@ use crate::standings::{
     Pair, PairVerdict, is_lacking, is_waiting, sharing, standings_above, verdict_at,
 };
 use crate::tables::{has_own, own_of, table_of};
+use delay_bounds::Bound;
 use std::alloc::Global;
 use std::marker::Model;
 use stream_bounds::{
@@ -156,6 +161,57 @@ struct Verdicted {
     verdict: PairVerdict,
 }
 
+/// A class of which nothing is known.
+fn unheard(alloc: Global) -> Verdicted
+    ensures answer { result.answer ≡ unbounded Verdicts.Idle }
+    ensures verdict { result.verdict ≡ PairVerdicts.Unheard }
+{
+    Verdicted {
+        answer: unbounded(alloc, Verdict::Idle),
+        verdict: PairVerdict::Unheard,
+    }
+}
+
+/// Whether a bound is what 128 bits hold at most: so it may be cut off there.
+fn is_cut(bound: Bound) -> bool
+    ensures { result ≡ is_cut bound }
+{
+    bound.greatest == u128::MAX
+}
+
+/// Whether any bound of an answer is.
+fn any_cut(answer: &ClassAnswer) -> Result<bool, BoundsFault>
+    ensures cut { IfOk result (λ cut. cut ≡ list_any is_cut answer.now.left) }
+    ensures memory { IfErr result (λ fault. fault ≡ Faults.Memory) }
+{
+    for place in 0..usize::MAX {
+        let Some(bound) = answer.bound(place) else {
+            return Ok(false);
+        };
+        if is_cut(bound) {
+            return Ok(true);
+        }
+    }
+    // (no memory holds so many)
+    Err(BoundsFault::Memory)
+}
+
+/// An answer that is found, with its verdict, where none of its bounds may be cut off.
+fn used(alloc: Global, found: ClassAnswer) -> Result<Verdicted, BoundsFault>
+    ensures used { IfOk result
+        (λ v. IsUsed (list_any is_cut found.left) found v.answer v.verdict) }
+    ensures memory { IfErr result (λ fault. fault ≡ Faults.Memory) }
+{
+    if any_cut(&found)? {
+        return Ok(unheard(alloc));
+    }
+    let verdict = PairVerdict::Known(found.verdict());
+    Ok(Verdicted {
+        answer: found,
+        verdict,
+    })
+}
+
 /// The answer about a class of a port, and the verdict.
 fn judged(alloc: Global, pair: Pair<'_>) -> Result<Verdicted, BoundsFault>
     requires class { pair.class < CLASSES }
@@ -169,14 +225,9 @@ fn judged(alloc: Global, pair: Pair<'_>) -> Result<Verdicted, BoundsFault>
     ensures memory { IfErr result (λ fault. fault ≡ Faults.Memory) }
 {
     if is_lacking(pair) {
-        return Ok(Verdicted {
-            answer: unbounded(alloc, Verdict::Idle),
-            verdict: PairVerdict::Unheard,
-        });
+        return Ok(unheard(alloc));
     }
-    let answer = pair_answer(alloc, pair)?;
-    let verdict = PairVerdict::Known(answer.verdict());
-    Ok(Verdicted { answer, verdict })
+    used(alloc, pair_answer(alloc, pair)?)
 }
 
 /// The port of a number.

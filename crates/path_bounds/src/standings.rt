@@ -21,7 +21,8 @@ use wire_time::CLASSES;
 pub enum PairVerdict {
     /// By what comes of its streams.
     Known(Verdict),
-    /// It is not known when the frames of one of its streams come: a port before gives that no bounds.
+    /// It is not known when the frames of one of its streams come: a port before gives that no bounds. Or 128 bits don't
+    /// hold a bound.
     Unheard,
 }
 

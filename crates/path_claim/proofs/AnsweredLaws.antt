@@ -9,12 +9,12 @@ use Rattle.abstract_port.specs.AbstractPort.{plan_asked}
 use Rattle.delay_bounds.specs.declared.Bound.{Bound}
 use Rattle.any_traffic.proofs.ListLaws.{get_last, get_more, none_here}
 use Rattle.stream_bounds.specs.Standing.{standing_of}
-use Rattle.stream_bounds.specs.Verdicts.{unbounded}
+use Rattle.stream_bounds.specs.Verdicts.{ClassAnswer, unbounded}
 use Rattle.stream_bounds.specs.declared.standing.Standing.{Standing}
 use Rattle.stream_bounds.specs.declared.standing.Standing.TheVariants as Standings
 use Rattle.stream_bounds.specs.declared.verdicts.Verdict.TheVariants as Verdicts
 use Rattle.traffic.specs.declared.table.Stream.{Stream}
-use Rattle.path_bounds.specs.Answers.{IsAnswerBy, IsJudgedAs, awaits, awaits_class, is_lacking, own_of, pair_of, standing_at, standings_from, table_of, verdict_at, verdict_in}
+use Rattle.path_bounds.specs.Answers.{IsAnswerBy, IsJudgedAs, IsPairAnswer, IsUsed, awaits, awaits_class, is_cut, is_lacking, own_of, pair_of, standing_at, standings_from, table_of, verdict_at, verdict_in}
 use Rattle.path_bounds.specs.Hops.{arrived, coming_at, coming_by, entry_of, is_at, is_awaited, is_class, is_counted, is_never, is_own, is_unknown, leaving_of, moved, passed_by, passed_on, span_behind}
 use Rattle.path_bounds.specs.Judged.{AreJudged, AreSteps, IsStep, Known, class_in, port_in, unjudged}
 use Rattle.path_bounds.specs.declared.hop.Coming.{Coming}
@@ -587,13 +587,14 @@ module _ (ports : List PathPort) (clocks : ℕ) where
         so = by (is_lacking step.port port class old.hops old.verdicts step.shares) refl step.judged;
       }
         where
-          by : (lacking : Bool) → is_lacking step.port port class old.hops old.verdicts step.shares ≡ lacking
-              → IsJudgedAs step.port port class old.hops old.verdicts step.shares lacking step.answer step.verdict
+          by_use : (found : ClassAnswer) → IsPairAnswer step.port port class old.hops old.verdicts step.shares found
+              → is_lacking step.port port class old.hops old.verdicts step.shares ≡ false
+              → (cut : Bool) → IsUsed cut found step.answer step.verdict
               → ((step.answer ≡ unbounded Verdicts.Idle) × (step.verdict ≡ PairVerdicts.Unheard))
               ⊎ IsKnownSo ports new (length old.order) pair step.port step.answer step.verdict
-          by true is judged = inl judged
-          by false is judged = inr (record {
-            is = judged.1;
+          by_use found answered is true used = inl used
+          by_use found answered is false used = inr (record {
+            is = used.1;
             all = ap (λ (hs : List Hop). list_any (λ (h : Hop). is_unknown h.coming) hs) hops_are
                 ∙ (given_any is_unknown (step.answer).left 0 (own_hops port class old.hops)
                 ∙ (sym (any_own port class is_unknown old.hops) ∙ is));
@@ -601,9 +602,17 @@ module _ (ports : List PathPort) (clocks : ℕ) where
             above = standings_from step.port port old.hops old.verdicts step.shares (7 - class) (class + 1);
             answered = subst (λ (xs : List Stream). IsAnswerBy (keeps_apart (plan_asked (step.port).change).entries class) step.port
                 (table_of port old.hops) (standings_from step.port port old.hops old.verdicts step.shares (7 - class) (class + 1)) xs class step.answer)
-                (sym (ap (λ (hs : List Hop). map entry_of hs) hops_are ∙ given_entries (step.answer).left 0 (own_hops port class old.hops))) judged.0;
+                (sym (ap (λ (hs : List Hop). map entry_of hs) hops_are ∙ given_entries (step.answer).left 0 (own_hops port class old.hops)))
+                (subst (λ (y : ClassAnswer). IsPairAnswer step.port port class old.hops old.verdicts step.shares y) (sym used.0) answered);
             beside = beside_here;
           })
+
+          by : (lacking : Bool) → is_lacking step.port port class old.hops old.verdicts step.shares ≡ lacking
+              → IsJudgedAs step.port port class old.hops old.verdicts step.shares lacking step.answer step.verdict
+              → ((step.answer ≡ unbounded Verdicts.Idle) × (step.verdict ≡ PairVerdicts.Unheard))
+              ⊎ IsKnownSo ports new (length old.order) pair step.port step.answer step.verdict
+          by true is judged = inl judged
+          by false is (found, answered, used) = by_use found answered is (list_any is_cut found.left) used
 
       -- and one that was judged before
       other_answered : (i q : ℕ) → IsAnswered ports old i q → IsAnswered ports new i q

@@ -28,6 +28,7 @@ use Rattle.path_claim.proofs.GivenLaws.{along_law}
 use Rattle.path_claim.proofs.LinkedLaws.{linked_law}
 use Rattle.path_claim.proofs.OnceLaws.{AreOnce, once_law}
 use Rattle.path_claim.proofs.ToldLaws.{linked_at, linked_first}
+use Rattle.path_claim.proofs.WholeLaws.{whole_law}
 
 -- ---- places
 
@@ -366,7 +367,7 @@ module _ (ports : List PathPort) (clocks : ℕ) (known : Known)
           }
 
 pub built_law : BuiltLaw
-built_law ports clocks ways known are judged whole =
+built_law ports clocks ways known are judged =
     built ports clocks known (along_law ports clocks ways known are judged) (linked_law ports clocks ways known judged)
     (held_law ports clocks ways known judged) (answered_law ports clocks (start_hops ports false ways) known judged)
-    (once_law ports clocks (start_hops ports false ways) known judged) whole
+    (once_law ports clocks (start_hops ports false ways) known judged) (whole_law ports clocks ways known judged)

@@ -14,11 +14,11 @@ since_small : (n : ℕ) → n ≤ 2 * greatest_moment → n < 2 ^ 127
 since_small n le = omega (arith, le)
 
 pub found_claim : NetworkClaim → FoundClaim
-found_claim claim ports clocks ways known read are judged whole runs nominal run =
+found_claim claim ports clocks ways known read are judged runs nominal run =
     let net = network_of ports clocks known in
-    let built = built_law ports clocks ways known are judged whole in
+    let built = built_law ports clocks ways known are judged in
     let kept = path_claim claim net ports clocks ways known (sent_law ports clocks ways read) judged
-    (small_law ports clocks ways known read are judged) built.is built.hops (shared_is ports clocks ways known read are judged whole) runs nominal run in
+    (small_law ports clocks ways known read are judged) built.is built.hops (shared_is ports clocks ways known read are judged) runs nominal run in
     record {
       keeps = kept;
       ends = λ k j n h p f there at numbered.

@@ -18,4 +18,5 @@ mod SoundLaws
 mod TakenLaws
 mod ToldLaws
 mod TrafficLaws
+mod WholeLaws
 mod WindowLaws

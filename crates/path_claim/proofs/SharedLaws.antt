@@ -24,7 +24,7 @@ use Rattle.path_bounds.specs.declared.start.WayHop.{WayHop}
 use Rattle.claims.specs.Network.{Hop as NetworkHop, Network, NetworkPort}
 use Rattle.claims.specs.Priority.{IsByPriority}
 use Rattle.path_claim.specs.Answered.{AreGiven, IsAnswered, IsKnownSo, own_hops}
-use Rattle.path_claim.specs.Built.{AreWays, AreWhole, IsBuilt, has_below, has_bounds, is_below, limit_by, network_of, quiet_by}
+use Rattle.path_claim.specs.Built.{AreWays, IsBuilt, has_below, has_bounds, is_below, limit_by, network_of, quiet_by}
 use Rattle.path_claim.specs.PathClaim.{AreHopsAs}
 use Rattle.path_claim.specs.Read.{IsRead}
 use Rattle.path_claim.specs.Told.{AreHopsTold}
@@ -65,12 +65,12 @@ none_given net (a ∷ those) (h ∷ hops) are given = absurd (none-some (are.0).
 none_given net those hops are given = absurd are
 
 module _ (ports : List PathPort) (clocks : ℕ) (ways : List WayHop) (known : Known) (read : IsRead ports clocks ways) (are : AreWays ports ways)
-    (judged : AreJudged ports clocks (unjudged ports (start_hops ports false ways)) known) (whole : AreWhole known) where
+    (judged : AreJudged ports clocks (unjudged ports (start_hops ports false ways)) known) where
   abbrev net : Network
   net = network_of ports clocks known
 
   built : IsBuilt net ports clocks known
-  built = built_law ports clocks ways known are judged whole
+  built = built_law ports clocks ways known are judged
 
   answered : (i pair : ℕ) → slice_get known.order i ≡ Some pair → IsAnswered ports known i pair
   answered = answered_law ports clocks (start_hops ports false ways) known judged

@@ -167,6 +167,12 @@ pub record AreWays (ports : List PathPort) (ways : List WayHop) : Type 0 where
 abbrev pub AreWhole : Known → Type 0
 AreWhole known = (k : ℕ) (h : Hop) (b : Bound) → slice_get known.hops k ≡ Some h → h.bound ≡ Some b → b.greatest < 2 ^ 128 - 1
 
+-- The law: so it is, once classes were judged one after another.
+abbrev pub WholeLaw : Type 0
+WholeLaw =
+    (ports : List PathPort) (clocks : ℕ) (ways : List WayHop) (known : Known)
+    → AreJudged ports clocks (unjudged ports (start_hops ports false ways)) known → AreWhole known
+
 module _ (net : Network) (ports : List PathPort) (clocks : ℕ) (known : Known) where
   -- a hop is in a class that is judged, at its place there
   pub record IsInClass (k : ℕ) (h : Hop) : Type 0 where
@@ -187,5 +193,5 @@ module _ (net : Network) (ports : List PathPort) (clocks : ℕ) (known : Known) 
 abbrev pub BuiltLaw : Type 0
 BuiltLaw =
     (ports : List PathPort) (clocks : ℕ) (ways : List WayHop) (known : Known) → AreWays ports ways
-    → AreJudged ports clocks (unjudged ports (start_hops ports false ways)) known → AreWhole known
+    → AreJudged ports clocks (unjudged ports (start_hops ports false ways)) known
     → IsBuilt (network_of ports clocks known) ports clocks known

@@ -9,7 +9,7 @@ use Rattle.path_bounds.specs.declared.hop.PathPort.{PathPort}
 use Rattle.path_bounds.specs.declared.start.WayHop.{WayHop}
 use Rattle.claims.specs.Network.{IsNetworkRun, IsNumbered, Network, PortRun, started_at, zero_at}
 use Rattle.claims.specs.NetworkClaim.{KeepsTime}
-use Rattle.path_claim.specs.Built.{AreWays, AreWhole, IsInClass, network_of, place_of}
+use Rattle.path_claim.specs.Built.{AreWays, IsInClass, network_of, place_of}
 use Rattle.path_claim.specs.Ends.{EndsAsTold, first_end}
 use Rattle.path_claim.specs.Read.{IsRead}
 
@@ -31,6 +31,6 @@ module _ (net : Network) (ports : List PathPort) (clocks : ℕ) (known : Known) 
 abbrev pub FoundClaim : Type 0
 FoundClaim =
     (ports : List PathPort) (clocks : ℕ) (ways : List WayHop) (known : Known)
-    → IsRead ports clocks ways → AreWays ports ways → AreJudged ports clocks (unjudged ports (start_hops ports false ways)) known → AreWhole known
+    → IsRead ports clocks ways → AreWays ports ways → AreJudged ports clocks (unjudged ports (start_hops ports false ways)) known
     → (runs : ℕ → PortRun) (nominal : (stream n : ℕ) → ℕ) → IsNetworkRun (network_of ports clocks known) runs nominal
     → IsKeptBy (network_of ports clocks known) ports clocks known runs nominal

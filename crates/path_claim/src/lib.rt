@@ -11,7 +11,7 @@
 
 ghost use Rattle.path_claim.specs.Answered.{AnsweredLaw};
 ghost use Rattle.path_claim.specs.Apart.{ApartLaw};
-ghost use Rattle.path_claim.specs.Built.{BuiltLaw};
+ghost use Rattle.path_claim.specs.Built.{BuiltLaw, WholeLaw};
 ghost use Rattle.path_claim.specs.Earlier.{EarlierLaw};
 ghost use Rattle.path_claim.specs.Ends.{EarliestLaw, EndLaw, SoonerLaw};
 ghost use Rattle.path_claim.specs.Found.{FoundClaim};
@@ -66,9 +66,14 @@ pub fn sound_law()
     ensures { SoundLaw }
 {}
 
+/// No bound that is known once classes were judged one after another is cut off at what 128 bits hold.
+pub fn whole_law()
+    ensures { WholeLaw }
+{}
+
 /// What is known once classes were judged one after another is told of a network: that with these ports, streams and
-/// classes. Each hop with a window and bounds is in it. That is so where each port of a way is there, its hops are of one
-/// stream, and no bound is cut off at what 128 bits hold.
+/// classes. Each hop with a window and bounds is in it. That is so where each port of a way is there, and its hops are of
+/// one stream.
 pub fn built_law()
     ensures { BuiltLaw }
 {}

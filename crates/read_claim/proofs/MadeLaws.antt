@@ -59,5 +59,5 @@ module _ (s : BoundsSettings) (is : IsSetup s.port) where
   read_law octets net kept ports made = read_is octets net kept ports made
 
 pub read_claim : FoundClaim → (s : BoundsSettings) → MadeReadLaw s → MadeWaysLaw s → ReadClaim s
-read_claim found s read ways octets net kept ports known made judged whole runs nominal run =
-    found ports (clocks_of net.clocks) (ways_in net) known (read octets net kept ports made) (ways octets net kept ports made) judged whole runs nominal run
+read_claim found s read ways octets net kept ports known made judged runs nominal run =
+    found ports (clocks_of net.clocks) (ways_in net) known (read octets net kept ports made) (ways octets net kept ports made) judged runs nominal run

@@ -19,14 +19,14 @@ use Rattle.paths.specs.Ports.{clocks_of, ports_in}
 use Rattle.paths.specs.Ways.{ways_in}
 use Rattle.paths.specs.declared.faults.PathsInput.{PathsInput}
 use Rattle.claims.specs.Network.{IsNetworkRun, PortRun}
-use Rattle.path_claim.specs.Built.{AreWays, AreWhole, network_of as found_network}
+use Rattle.path_claim.specs.Built.{AreWays, network_of as found_network}
 use Rattle.path_claim.specs.Found.{IsKeptBy}
 use Rattle.path_claim.specs.Read.{IsRead}
 
--- What is known of all classes of these ports holds in every run of the network that is found, where no bound is cut off.
+-- What is known of all classes of these ports holds in every run of the network that is found.
 abbrev pub Holds : List PathPort → (clocks : ℕ) → Known → Type 0
 Holds ports clocks known =
-    AreWhole known → (runs : ℕ → PortRun) (nominal : (stream n : ℕ) → ℕ) → IsNetworkRun (found_network ports clocks known) runs nominal
+    (runs : ℕ → PortRun) (nominal : (stream n : ℕ) → ℕ) → IsNetworkRun (found_network ports clocks known) runs nominal
     → IsKeptBy (found_network ports clocks known) ports clocks known runs nominal
 
 module _ (s : BoundsSettings) where
