@@ -43,7 +43,7 @@ module _ (port : Setup) (table : List ℕ) (old mid out : Option (List ℕ)) (k 
   same_out (Err (Faults.Input (Inputs.Without reason))) w = appends_kept old mid out (reason_text reason) w k
   same_out (Err (Faults.Input (Inputs.Table number fault))) w = (w.0, keeps_on old mid out w.1 k)
   same_out (Err (Faults.Input (Inputs.Network bad))) w = (w.0, keeps_on old mid out w.1 k)
-  same_out (Err (Faults.Input Inputs.Large)) w = keeps_on old mid out w k
+  same_out (Err (Faults.Input Inputs.Large)) w = (w.0, keeps_on old mid out w.1 k)
   same_out (Err Faults.Write) w = (w.0, w.1, (w.2.0, sent_kept old mid out w.0 w.2.0 w.2.1 k))
   same_out (Err Faults.Read) w = keeps_on old mid out w k
   same_out (Err Faults.Memory) w = keeps_on old mid out w k
@@ -58,7 +58,7 @@ module _ (port : Setup) (table : List ℕ) (old mid out : Option (List ℕ)) (k 
       (reason_text reason, inr (reason, refl), ([], sent_whole old out (reason_text reason) (appends_kept old mid out (reason_text reason) w k)))
   front_out (Err (Faults.Input (Inputs.Table number fault))) w = nothing w.1
   front_out (Err (Faults.Input (Inputs.Network bad))) w = nothing w.1
-  front_out (Err (Faults.Input Inputs.Large)) w = nothing w
+  front_out (Err (Faults.Input Inputs.Large)) w = nothing w.1
   front_out (Err Faults.Write) w = same_out (Err Faults.Write) w
   front_out (Err Faults.Read) w = nothing w
   front_out (Err Faults.Memory) w = nothing w

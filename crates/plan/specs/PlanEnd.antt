@@ -1,5 +1,5 @@
 -- What planning for a table leaves: its exit status, what the writer got, and the text of a fault.
-use Rattle.std.specs.Prelude.{◌≡◌, ◌⊎◌, ℕ, List, Bool, true, false, Option, Some, None, Result, Ok, Err, IfSome, codes}
+use Rattle.std.specs.Prelude.{◌≡◌, ◌<◌, ◌⊎◌, ℕ, List, length, Bool, true, false, Option, Some, None, Result, Ok, Err, IfSome, codes}
 use Rattle.std.specs.Io.KnownBytes.{Appends, Keeps}
 use Rattle.text.specs.Script.{script_of}
 use Rattle.text.specs.Writes.{AppendsFront}
@@ -14,6 +14,7 @@ use Rattle.network.specs.Network.{network_of}
 use Rattle.plan.specs.Met.{IsMetBy}
 use Rattle.plan.specs.declared.faults.PlanInput.{PlanInput}
 use Rattle.plan.specs.declared.faults.PlanInput.TheVariants as Inputs
+use Rattle.plan.specs.declared.octets.TheConstants.{MAX_OCTETS}
 use Rattle.plan.specs.declared.reasons.Reason.{Reason}
 use Rattle.plan.specs.declared.settings.PlanValue.{PlanValue}
 use Rattle.plan.specs.declared.settings.PlanValue.TheVariants as Values
@@ -37,7 +38,7 @@ IsPlanned port table (Err (Faults.Input (Inputs.Without reason))) old new = Appe
 IsPlanned port table (Err (Faults.Input (Inputs.Table number fault))) old new =
     (table_by periodic (script_of table)).fault ≡ Some (number, fault) × Keeps old new
 IsPlanned port table (Err (Faults.Input (Inputs.Network bad))) old new = network_of (script_of table) ≡ Err bad × Keeps old new
-IsPlanned port table (Err (Faults.Input Inputs.Large)) old new = Keeps old new
+IsPlanned port table (Err (Faults.Input Inputs.Large)) old new = MAX_OCTETS < length table × Keeps old new
 IsPlanned port table (Err Faults.Write) old new = (text : List ℕ) × IsPlanText port table text × AppendsFront old new text
 IsPlanned port table (Err Faults.Read) old new = Keeps old new
 IsPlanned port table (Err Faults.Memory) old new = Keeps old new

@@ -1,20 +1,21 @@
 -- How the octets of a table are read.
-use Rattle.std.specs.Prelude.{◌≡◌, ⊤, ℕ, List, ◌++◌, Bool, true, false, Option, Result}
+use Rattle.std.specs.Prelude.{◌≡◌, ◌<◌, ⊤, ℕ, List, ◌++◌, length, Bool, true, false, Option, Result}
 use Rattle.std.specs.Io.KnownBytes.{Consumes, IsAtEnd}
 use Rattle.job.specs.declared.fault.Fault.{Fault}
 use Rattle.job.specs.declared.fault.Fault.TheVariants as Faults
 use Rattle.plan.specs.declared.faults.PlanInput.{PlanInput}
 use Rattle.plan.specs.declared.faults.PlanInput.TheVariants as Inputs
+use Rattle.plan.specs.declared.octets.TheConstants.{MAX_OCTETS}
 
--- why an input is not read: a call failed, or it has too many octets
-abbrev pub IsUnread : Fault PlanInput → Type 0
-IsUnread (Faults.Input (Inputs.Table number fault)) = ⊥
-IsUnread (Faults.Input (Inputs.Network bad)) = ⊥
-IsUnread (Faults.Input Inputs.Large) = ⊤
-IsUnread (Faults.Input (Inputs.Without reason)) = ⊥
-IsUnread Faults.Write = ⊥
-IsUnread Faults.Read = ⊤
-IsUnread Faults.Memory = ⊤
+-- why an input of these octets is not read: a call failed, or there are too many
+abbrev pub IsUnread : (table : List ℕ) → Fault PlanInput → Type 0
+IsUnread table (Faults.Input (Inputs.Table number fault)) = ⊥
+IsUnread table (Faults.Input (Inputs.Network bad)) = ⊥
+IsUnread table (Faults.Input Inputs.Large) = MAX_OCTETS < length table
+IsUnread table (Faults.Input (Inputs.Without reason)) = ⊥
+IsUnread table Faults.Write = ⊥
+IsUnread table Faults.Read = ⊤
+IsUnread table Faults.Memory = ⊤
 
 -- where nothing more comes the input has ended
 abbrev pub IsEndAt : (more : Bool) → (left : Option (List ℕ)) → Type 0

@@ -1,5 +1,5 @@
 -- What a search for a plan comes to.
-use Rattle.std.specs.Prelude.{◌≡◌, ⊤, ℕ, List, Some, Result, Ok, Err}
+use Rattle.std.specs.Prelude.{◌≡◌, ◌<◌, ⊤, ℕ, List, length, Some, Result, Ok, Err}
 use Rattle.text.specs.Script.{script_of}
 use Rattle.job.specs.declared.fault.Fault.{Fault}
 use Rattle.job.specs.declared.fault.Fault.TheVariants as Faults
@@ -7,6 +7,7 @@ use Rattle.network.specs.Network.{network_of}
 use Rattle.plan.specs.Met.{IsMetBy}
 use Rattle.plan.specs.declared.faults.PlanInput.{PlanInput}
 use Rattle.plan.specs.declared.faults.PlanInput.TheVariants as Inputs
+use Rattle.plan.specs.declared.octets.TheConstants.{MAX_OCTETS}
 use Rattle.plan.specs.declared.plans.Planned.{Planned}
 use Rattle.plan.specs.declared.plans.Planned.TheVariants as Plans
 use Rattle.script.specs.Setup.{Setup}
@@ -23,7 +24,7 @@ abbrev pub IsGoodOr : Setup → (table : List ℕ) → Result Planned (Fault Pla
 IsGoodOr port table (Ok planned) = IsGood port table planned
 IsGoodOr port table (Err (Faults.Input (Inputs.Table number fault))) = (table_by periodic (script_of table)).fault ≡ Some (number, fault)
 IsGoodOr port table (Err (Faults.Input (Inputs.Network bad))) = network_of (script_of table) ≡ Err bad
-IsGoodOr port table (Err (Faults.Input Inputs.Large)) = ⊤
+IsGoodOr port table (Err (Faults.Input Inputs.Large)) = MAX_OCTETS < length table
 IsGoodOr port table (Err (Faults.Input (Inputs.Without reason))) = ⊥
 IsGoodOr port table (Err Faults.Write) = ⊥
 IsGoodOr port table (Err Faults.Read) = ⊤

@@ -16,7 +16,7 @@ const CHUNK: usize = 4096;
 /// Adds octets, where there is room for them.
 fn add<A: Allocator>(octets: &mut Vec<u8, A>, more: &[u8]) -> Result<(), PlanFault>
     ensures added { IfOk result (λ _. octets.new.items ≡ octets.old.items ++ more.now) }
-    ensures why { IfErr result IsUnread }
+    ensures why { IfErr result (IsUnread (octets.old.items ++ more.now)) }
 {
     if octets.len() > MAX_OCTETS || more.len() > MAX_OCTETS - octets.len() {
         return Err(PlanFault::Input(PlanInput::Large));
@@ -35,7 +35,8 @@ fn read_some<A: Allocator, R: Read>(
     ensures read { IfOk result
         (λ more. AddsSome more (R.remaining reader.old)
         (R.remaining reader.new) octets.old.items octets.new.items) }
-    ensures why { IfErr result IsUnread }
+    ensures why { IfErr result (λ why.
+        IfSome (R.remaining reader.old) (λ left. IsUnread (octets.old.items ++ left) why)) }
 {
     let mut chunk = [0u8; CHUNK];
     let Ok(count) = reader.read(&mut chunk) else {
@@ -55,7 +56,8 @@ pub(crate) fn read_octets<A: Allocator, R: Read>(
 ) -> Result<Vec<u8, A>, PlanFault>
     ensures read { IfOk result
         (λ octets. IfSome (R.remaining reader.old) (λ table. octets.items ≡ table)) }
-    ensures why { IfErr result IsUnread }
+    ensures why { IfErr result (λ why.
+        IfSome (R.remaining reader.old) (λ table. IsUnread table why)) }
 {
     let mut octets = Vec::new(alloc);
     'reads: for _read in 0..u64::MAX {
