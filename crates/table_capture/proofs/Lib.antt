@@ -1,3 +1,4 @@
+pub mod AlertLaws
 pub mod CarriedLaws
 pub mod Filled
 pub mod FrameLaws

@@ -1,3 +1,4 @@
+pub mod Alerts
 pub mod Carried
 pub mod CaptureEnd
 pub mod Law

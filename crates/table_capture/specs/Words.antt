@@ -8,8 +8,9 @@ pub use Rattle.capture.specs.declared.format.TheConstants.{MAX_RECORD_OCTETS}
 pub use Rattle.capture.specs.declared.writer.TheConstants.{CAPTURE_END}
 pub use Rattle.job.specs.Outcome.{Runs}
 pub use Rattle.job.specs.declared.fault.Fault.{Fault}
-pub use Rattle.traffic.specs.Words.{AreCounted, IsKept, IsSaid, IsTournament, crowded, judged, left_of_all, plan_frames, stream_alert}
+pub use Rattle.traffic.specs.Words.{AreCounted, IsKept, IsSaid, IsTournament, crowded, judged, left_of_all, plan_frames, stream_alert, table_alerts}
 pub use Rattle.traffic.specs.declared.table.Stream.{Stream}
+pub use Rattle.table_capture.specs.Alerts.{IsWatchedEnding, IsWatchedRun, WatchedRun}
 pub use Rattle.table_capture.specs.CaptureEnd.{IsCaptureEnding}
 pub use Rattle.table_capture.specs.Carried.{AreCarried, IsCarried, carried, ends_in_time, is_told}
 pub use Rattle.table_capture.specs.Law.{CaptureLaw}

@@ -2,7 +2,7 @@
 
 ghost use Rattle.std.specs.Prelude.{◌≡◌, ◌≤◌, All, IfOk, IfSome, replicate};
 ghost use Rattle.text.specs.Buffered.{writer_contents};
-ghost use Rattle.table_capture.specs.Words.{AreCarried, IsCaptureEnding, IsKept, IsRoom, IsTournament, Runs, carried, crowded, greatest_moment, left_of_all, outcome_by_lines, outcome_counted, outcome_of, plan_frames, script_left, whole_capture};
+ghost use Rattle.table_capture.specs.Words.{AreCarried, IsCaptureEnding, IsKept, IsRoom, IsTournament, IsWatchedEnding, IsWatchedRun, Runs, WatchedRun, carried, crowded, greatest_moment, left_of_all, outcome_by_lines, outcome_counted, outcome_of, plan_frames, script_left, stream_alert, table_alerts, whole_capture};
 
 use crate::kept::CarriedStreams;
 use crate::records::put_capture;
@@ -120,9 +120,12 @@ fn write_table<A: Allocator, B: Allocator, R: Read + Drop, W: PutLine, H: Watch>
     watch: &mut H,
 ) -> Result<(), StreamsFault>
     requires { plan.from ≤ greatest_moment }
-    ensures { IfSome (script_left R.remaining table.old)
+    ensures written { IfSome (script_left R.remaining table.old)
         (λ lines. Runs result (W.contents writer.old) (W.contents writer.new)
         (outcome_by_lines plan lines)) }
+    ensures watched { IfSome (script_left R.remaining table.old)
+        (λ lines. WatchedRun H.alerted (table_alerts stream_alert (carried plan) lines)
+        result watch.old watch.new) }
 {
     let mut kept = CarriedStreams::new(alloc, plan);
     match read_table(table, &mut kept, watch) {
@@ -149,9 +152,10 @@ pub fn write_capture<A: Allocator, R: Read + Drop, W: PutLine, H: Watch>(
     watch: &mut H,
 ) -> Result<(), StreamsFault>
     requires { plan.from ≤ greatest_moment }
-    ensures { IfSome (R.remaining table)
+    ensures written { IfSome (R.remaining table)
         (λ octets. Runs result (W.contents writer.old) (W.contents writer.new)
         (outcome_of plan octets)) }
+    ensures watched { IsWatchedRun H.alerted plan (R.remaining table) result watch.old watch.new }
 {
     let mut table = LineReader::new(&alloc, table)?;
     write_table(&&alloc, &mut table, writer, plan, watch)
@@ -169,9 +173,11 @@ pub fn answer_capture<A: Allocator, B: Allocator, R: Read, W: Write + Drop, E: E
     watch: &mut H,
 ) -> (Ended, W)
     requires { plan.from ≤ greatest_moment }
-    ensures { IsCaptureEnding plan (R.remaining reader.old) result.0
+    ensures ending { IsCaptureEnding plan (R.remaining reader.old) result.0
         (writer_contents W.contents capture) (W.contents result.1) (E.contents errors.old)
         (E.contents errors.new) }
+    ensures watched { IsWatchedEnding H.alerted plan (R.remaining reader.old) result.0
+        watch.old watch.new }
 {
     let run = write_capture(alloc, reader, &mut capture, plan, watch);
     end_run(run, capture, errors)
