@@ -98,8 +98,9 @@ struct call {
     uint32_t windows; /* of BOUNDS_ASKED and PATHS what is asked */
     uint64_t frames;
     struct octets input, second; /* of PLAN the table, and the device */
-    struct taprio_plan_values plan;
 };
+
+static struct taprio_plan_values plan = TAPRIO_PLAN_VALUES; /* of PLAN what is asked */
 
 static struct taprio_ran call(const struct call *c, struct octets output, struct octets fault) {
     struct taprio_ran ran;
@@ -151,7 +152,7 @@ static struct taprio_ran call(const struct call *c, struct octets output, struct
                      output.length, fault.at, fault.length, &ran);
         break;
     case PLAN:
-        taprio_plan(&c->values, &c->plan, c->second.at, c->second.length, c->input.at, c->input.length, output.at, output.length,
+        taprio_plan(&c->values, &plan, c->second.at, c->second.length, c->input.at, c->input.length, output.at, output.length,
                     fault.at, fault.length, &ran);
         break;
     default:
@@ -615,40 +616,40 @@ static void paths(void) {
 static void plans(void) {
     static const char table[] = "stream 1 7 60 250us 20us 1 deadline 20us\n";
     struct octets device = text("swp3"), none = text("");
-    struct call c = {PLAN, usual, whole, 0, 0, {0}, device, TAPRIO_PLAN_VALUES};
+    struct call c = {PLAN, usual, whole, 0, 0, {0}, device};
     small("a plan", c, table, TAPRIO_DONE,
           TC "swp3" ONE_CLASS "0 cycle-time 250000 sched-entry S 01 20000 sched-entry S 02 672 sched-entry S 01 229328 clockid CLOCK_TAI\n", "");
-    c.plan.cycle = 125000;
-    c.plan.base_time = 250000;
-    c.plan.least_interval = 1000;
+    plan.cycle = 125000;
+    plan.base_time = 250000;
+    plan.least_interval = 1000;
     small("a plan with values", c, table, TAPRIO_DONE,
           TC "swp3" ONE_CLASS "250000 cycle-time 125000 sched-entry S 01 20000 sched-entry S 02 1000 sched-entry S 01 104000 clockid CLOCK_TAI\n",
           "");
-    c.plan.entries = 2;
+    plan.entries = 2;
     small("a plan with two entries", c, table, TAPRIO_DONE,
           TC "swp3" ONE_CLASS "250000 cycle-time 125000 sched-entry S 02 21000 sched-entry S 01 104000 clockid CLOCK_TAI\n", "");
-    c.plan = (struct taprio_plan_values)TAPRIO_PLAN_VALUES;
+    plan = (struct taprio_plan_values)TAPRIO_PLAN_VALUES;
     small("a plan for a port of a network", c, "stream 1 7 60 250us 20us 1 deadline 20us via a\n", TAPRIO_DONE,
           TC "a" ONE_CLASS "0 cycle-time 250000 sched-entry S 01 20000 sched-entry S 02 672 sched-entry S 01 229328 clockid CLOCK_TAI\n", "");
     small("no plan", c, "stream 1 7 60 250us 20us 1 deadline 1ns\n", TAPRIO_NO_PLAN, "none deadline 1\n",
           "taprio_port: plan: no schedule is found\n");
     small("a plan, and a bad line", c, "streams\n", TAPRIO_BAD_INPUT, "", "taprio_port: table line 1: UnknownLine\n");
     small("a plan, and a bad line of a network", c, "link a b\n", TAPRIO_BAD_INPUT, "", "taprio_port: network line 1: WordCount\n");
+    plan.cycle = 4294967296;
+    small("a plan, and a long cycle", c, table, TAPRIO_BAD_VALUE, "", "taprio_port: bad value of --cycle\n");
+    plan = (struct taprio_plan_values)TAPRIO_PLAN_VALUES;
+    plan.entries = 257;
+    small("a plan, and many entries", c, table, TAPRIO_BAD_VALUE, "", "taprio_port: bad value of --entries\n");
+    plan.entries = 0;
+    small("a plan, and no entries", c, table, TAPRIO_BAD_VALUE, "", "taprio_port: bad value of --entries\n");
+    plan = (struct taprio_plan_values)TAPRIO_PLAN_VALUES;
+    plan.least_interval = 4294967296;
+    small("a plan, and long entries", c, table, TAPRIO_BAD_VALUE, "", "taprio_port: bad value of --least-interval\n");
+    plan = (struct taprio_plan_values)TAPRIO_PLAN_VALUES;
+    plan.base_time = 1ull << 63;
+    small("a plan, and a late base time", c, table, TAPRIO_BAD_VALUE, "", "taprio_port: bad value of --base-time\n");
+    plan = (struct taprio_plan_values)TAPRIO_PLAN_VALUES;
     struct call bad = c;
-    bad.plan.cycle = 4294967296;
-    small("a plan, and a long cycle", bad, table, TAPRIO_BAD_VALUE, "", "taprio_port: bad value of --cycle\n");
-    bad = c;
-    bad.plan.entries = 257;
-    small("a plan, and many entries", bad, table, TAPRIO_BAD_VALUE, "", "taprio_port: bad value of --entries\n");
-    bad.plan.entries = 0;
-    small("a plan, and no entries", bad, table, TAPRIO_BAD_VALUE, "", "taprio_port: bad value of --entries\n");
-    bad = c;
-    bad.plan.least_interval = 4294967296;
-    small("a plan, and long entries", bad, table, TAPRIO_BAD_VALUE, "", "taprio_port: bad value of --least-interval\n");
-    bad = c;
-    bad.plan.base_time = 1ull << 63;
-    small("a plan, and a late base time", bad, table, TAPRIO_BAD_VALUE, "", "taprio_port: bad value of --base-time\n");
-    bad = c;
     bad.second = none;
     small("a plan, and no device", bad, table, TAPRIO_BAD_VALUE, "", "taprio_port: bad value of --device\n");
     bad.values.mtu = 0;
