@@ -15,7 +15,7 @@ shared object alone. Calls may be made from several threads: they share nothing,
 
 `taprio.schedules` reads and writes schedules (times in nanoseconds), `Stream` is a stream of
 frames (times in nanoseconds), `run_streams` runs both, `frames` gives those of a script or a capture, `bounds` tells how long the frames of streams
-wait for ever, `paths` how late they are through a network, `read_run`, `read_frames`, `read_check`, `read_bounds` and `read_paths` give what the
+wait for ever, `paths` how late they are through a network, `plan` finds schedules for them, `read_run`, `read_frames`, `read_check`, `read_bounds` and `read_paths` give what the
 jobs answer as objects, and `read_capture` reads a capture.
 `moment` reads a moment such as `12.303us`, over the shared object.
 """
@@ -29,6 +29,7 @@ from .faults import (
     BadValue,
     LeftOut,
     LibraryMissing,
+    NoPlan,
     Refused,
     Replay,
     TaprioError,
@@ -40,7 +41,7 @@ from .port import Port
 from .program import Backend, Program, backend
 from .results import read_bounds, read_check, read_frames, read_paths, read_run
 from .schedules import Schedule
-from .traffic import Stream, bounds, frames, paths, run_streams, table
+from .traffic import Stream, bounds, frames, paths, plan, run_streams, table
 
 __version__ = "0.2.0"
 
@@ -54,6 +55,7 @@ __all__ = [
     "LeftOut",
     "Library",
     "LibraryMissing",
+    "NoPlan",
     "Port",
     "Program",
     "Refused",
@@ -69,6 +71,7 @@ __all__ = [
     "frames",
     "moment",
     "paths",
+    "plan",
     "plot",
     "read_bounds",
     "read_capture",

@@ -6,9 +6,9 @@ import operator
 import re
 from typing import Any, NamedTuple
 
-__all__ = ["BadAnswer", "BadCapture", "BadInput", "BadSchedule", "BadValue", "LeftOut", "LibraryMissing", "Refused", "Replay", "TaprioError"]
+__all__ = ["BadAnswer", "BadCapture", "BadInput", "BadSchedule", "BadValue", "LeftOut", "LibraryMissing", "NoPlan", "Refused", "Replay", "TaprioError"]
 
-BAD_VALUE, BAD_INPUT, NO_MEMORY, NO_ROOM = 2, 3, 4, 5
+NO_PLAN, BAD_VALUE, BAD_INPUT, NO_MEMORY, NO_ROOM = 1, 2, 3, 4, 5
 _BEFORE = "taprio_port: "
 # (a network's faults may name ports or another line behind their names, and its schedules' what a port answers before it)
 _PLACE = re.compile(r"(\w+) (\w+)(?: (\d+))?: (?:refused |tc-fault )?(\w+)(?: .+)?")
@@ -72,6 +72,18 @@ class LibraryMissing(TaprioError, OSError):
     """The shared object can't be loaded. The text says which file was looked for, and what to do."""
 
 
+class NoPlan(TaprioError, ValueError):
+    """No schedule is found by which the streams meet their deadlines. `reason` is why, as `plan` says it: "none deadline 1". It stands in the
+    text, too."""
+
+    def __init__(self, text: str, reason: str) -> None:
+        super().__init__(text)
+        self.reason = reason
+
+    def __reduce__(self) -> tuple[Any, ...]:
+        return type(self), (self.args[0], self.reason), self.__dict__
+
+
 class Refused(TaprioError, ValueError):
     """A port did not accept a command, and nothing has changed.
 
@@ -131,6 +143,9 @@ class LeftOut(UserWarning):
 def of_text(status: int, text: str, output: bytes | Replay) -> TaprioError:
     """The exception of a text that the library or the program has told, with its status."""
     text = text.rstrip("\n").removeprefix(_BEFORE)
+    if status == NO_PLAN and isinstance(output, bytes):
+        reason = output.decode("utf-8", "replace").rstrip("\n")
+        return NoPlan(f"{text}: {reason}", reason)
     if status == BAD_VALUE and text.startswith("bad value of "):
         return BadValue(text, text.rpartition(" ")[2])
     found = _PLACE.fullmatch(text) if status == BAD_INPUT else None

@@ -14,13 +14,14 @@ import pathlib
 from collections.abc import Callable, Iterable
 from typing import Any, Union
 
-from .faults import NO_MEMORY, NO_ROOM, BadInput, BadValue, LibraryMissing, Replay, TaprioError, index, of_text
+from .faults import NO_MEMORY, NO_ROOM, BadInput, BadValue, LibraryMissing, NoPlan, Replay, TaprioError, index, of_text
 
 __all__ = [
     "BadInput",
     "BadValue",
     "Library",
     "LibraryMissing",
+    "NoPlan",
     "Replay",
     "TaprioError",
     "bounds",
@@ -29,6 +30,7 @@ __all__ = [
     "frames",
     "moment",
     "paths",
+    "plan",
     "replay",
     "run",
     "streams",
@@ -59,6 +61,16 @@ class _PictureValues(ctypes.Structure):
         ("to_high", ctypes.c_uint64),
         ("width", ctypes.c_uint32),
         ("unused", ctypes.c_uint32),
+    ]
+
+
+class _PlanValues(ctypes.Structure):
+    _fields_ = [
+        ("cycle", ctypes.c_uint64),
+        ("least_interval", ctypes.c_uint64),
+        ("base_time", ctypes.c_uint64),
+        ("entries", ctypes.c_uint32),
+        ("share", ctypes.c_uint32),
     ]
 
 
@@ -96,8 +108,8 @@ _OF_PORT: dict[str, list[Any]] = {
 }
 
 # What a shared object lacks that was built before there were bounds, tables of frames, ports that are driven, late frames, lines of what
-# is shared, bounds of classes that share, or paths.
-_LATER = ("taprio_streams_from", "taprio_bounds", "taprio_frames", "taprio_replay_stamped", "taprio_frames_by_stream", "taprio_frames_of_capture", "taprio_moment", "taprio_streams_late", "taprio_streams_drawn", "taprio_bounds_slack", "taprio_bounds_asked", "taprio_check_shares", "taprio_paths", *_OF_PORT)
+# is shared, bounds of classes that share, paths, or plans.
+_LATER = ("taprio_streams_from", "taprio_bounds", "taprio_frames", "taprio_replay_stamped", "taprio_frames_by_stream", "taprio_frames_of_capture", "taprio_moment", "taprio_streams_late", "taprio_streams_drawn", "taprio_bounds_slack", "taprio_bounds_asked", "taprio_check_shares", "taprio_paths", "taprio_plan", *_OF_PORT)
 
 
 def _path() -> str:
@@ -141,6 +153,7 @@ def _typed(library: ctypes.CDLL) -> ctypes.CDLL:
         "taprio_bounds_slack": [port, ctypes.c_uint64, *_OCTETS, *_OCTETS, *_LENT, *_LENT, ran],
         "taprio_bounds_asked": [port, ctypes.c_uint64, ctypes.c_uint32, *_OCTETS, *_OCTETS, *_LENT, *_LENT, ran],
         "taprio_paths": [port, ctypes.c_uint64, ctypes.c_uint32, *_OCTETS, *_OCTETS, *_LENT, *_LENT, ran],
+        "taprio_plan": [port, ctypes.POINTER(_PlanValues), *_OCTETS, *_OCTETS, *_LENT, *_LENT, ran],
         "taprio_draw": [port, picture, *_OCTETS, *_LENT, *_LENT, ran],
         "taprio_replay": [port, *_OCTETS, *_OCTETS, *_LENT, *_LENT, *_LENT, replay_ran],
         "taprio_replay_stamped": [port, ctypes.c_uint32, *_OCTETS, *_OCTETS, *_LENT, *_LENT, *_LENT, replay_ran],
@@ -412,6 +425,40 @@ def paths(
     return _one("taprio_paths", given, 4 * (len(network) + len(schedules)) + 4096)
 
 
+def cycle_of(cycle: int | None) -> int | None:
+    """The cycle of a plan. None, and not 0, says that none is given."""
+    if cycle == 0:
+        raise BadValue("bad value of --cycle", "--cycle")
+    return cycle
+
+
+def plan(
+    table: Octets,
+    rate: int = 1000,
+    mtu: int = 1500,
+    room: int = 128,
+    cycle: int | None = None,
+    entries: int = 256,
+    least_interval: int = 0,
+    base_time: int = 0,
+    share: bool = False,
+    device: str = "eth0",
+) -> bytes:
+    """Finds a schedule by which the streams of a table meet their deadlines, or one for each port of a network: its `tc` line, or one
+    line for each port. A strict run of `bounds`, or of `paths`, has no finding with them. Where none is found, `NoPlan` is raised, and says why.
+
+    `rate`, `mtu` and `room` are those of `run`. In nanoseconds are `cycle`, 1 to 4294967295, where it is given, `least_interval`, which each
+    entry has at the least, 0 to 4294967295, and `base_time`, at most 2^63 - 1. `entries`, 1 to 256, is how many a schedule has at most. With
+    `share` classes without deadlines may use what the windows of higher ones leave. `device`, 1 to 15 octets, is the device of the line where
+    the table names no port.
+    """
+    table, name, cycle = octets(table), device.encode(), cycle_of(cycle)
+    times = number(cycle or 0, 64, "cycle"), number(least_interval, 64, "least_interval"), number(base_time, 64, "base_time")
+    asked = _PlanValues(*times, number(entries, 32, "entries"), bool(share))
+    port = ctypes.byref(_port(rate, mtu, room, None, False))
+    return _one("taprio_plan", [port, ctypes.byref(asked), name, len(name), table, len(table)], 65536)
+
+
 def _beginning(begin: int | None) -> tuple[int, int]:
     """The halves of the moment that a picture begins at: 2^128 - 1 says that there is none, and no moment is so great."""
     moment = 2**128 - 1 if begin is None else min(number(begin, 128, "begin"), 2**128 - 2)
@@ -480,6 +527,7 @@ class Library:
     streams = staticmethod(streams)
     bounds = staticmethod(bounds)
     paths = staticmethod(paths)
+    plan = staticmethod(plan)
     draw = staticmethod(draw)
     replay = staticmethod(replay)
 

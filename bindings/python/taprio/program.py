@@ -13,8 +13,8 @@ from collections.abc import Iterable
 from typing import NoReturn, Protocol, Union
 
 from . import library
-from .faults import BAD_INPUT, BAD_VALUE, LibraryMissing, Replay, TaprioError, of_text
-from .library import Library, Octets, number, octets, seed_of, silent_classes, stamp_is_end, streams_or_capture
+from .faults import BAD_INPUT, BAD_VALUE, NO_PLAN, LibraryMissing, Replay, TaprioError, of_text
+from .library import Library, Octets, cycle_of, number, octets, seed_of, silent_classes, stamp_is_end, streams_or_capture
 
 __all__ = ["Backend", "Chosen", "Program", "backend"]
 
@@ -78,6 +78,21 @@ class Backend(Protocol):
     ) -> bytes:
         """How long the frames of a network's streams take from end to end, for ever, under the schedules of its ports."""
 
+    def plan(
+        self,
+        table: Octets,
+        rate: int = 1000,
+        mtu: int = 1500,
+        room: int = 128,
+        cycle: int | None = None,
+        entries: int = 256,
+        least_interval: int = 0,
+        base_time: int = 0,
+        share: bool = False,
+        device: str = "eth0",
+    ) -> bytes:
+        """A schedule by which the streams of a table meet their deadlines, or one for each port of a network."""
+
     def draw(
         self,
         script: Octets,
@@ -118,8 +133,8 @@ class Program:
     def __repr__(self) -> str:
         return f"Program({self.path!r})"
 
-    def _ran(self, words: list[str], input: bytes, folder: str | None = None) -> tuple[int, str, bytes]:
-        """The status, the fault's text and the standard output."""
+    def _ran(self, words: list[str], input: bytes, folder: str | None = None, also: int = BAD_INPUT) -> tuple[int, str, bytes]:
+        """The status, the fault's text and the standard output. `also` is a status that the job has beside those of all."""
         try:
             ran = subprocess.run([self.path, *words], input=input, capture_output=True, cwd=folder, check=False)
         except OSError as fault:
@@ -129,7 +144,7 @@ class Program:
         text = lines[-1] if lines else ""
         if ran.returncode and text == "taprio_port: out of memory":
             raise MemoryError("out of memory")
-        if ran.returncode not in (0, BAD_VALUE, BAD_INPUT):
+        if ran.returncode not in (0, BAD_VALUE, BAD_INPUT, also):
             raise TaprioError(text.removeprefix("taprio_port: ") or f"the program ended with status {ran.returncode}")
         return ran.returncode, text, ran.stdout
 
@@ -238,6 +253,32 @@ class Program:
         network, schedules = octets(network), octets(schedules)
         words = ["paths", *self._port(rate, mtu, room, None, False), *self._asked(frames, silent, leftovers)]
         return self._with_file([*words, "network"], "network", network, schedules)
+
+    def plan(
+        self,
+        table: Octets,
+        rate: int = 1000,
+        mtu: int = 1500,
+        room: int = 128,
+        cycle: int | None = None,
+        entries: int = 256,
+        least_interval: int = 0,
+        base_time: int = 0,
+        share: bool = False,
+        device: str = "eth0",
+    ) -> bytes:
+        """Finds a schedule for a table, or those for a network, as `taprio.plan` does."""
+        table, cycle = octets(table), cycle_of(cycle)
+        words = ["plan", *self._port(rate, mtu, room, None, False), f"--device={device}", "--entries", str(number(entries, 32, "entries"))]
+        words += ["--least-interval", f"{number(least_interval, 64, 'least_interval')}ns"]
+        words += ["--base-time", str(number(base_time, 64, "base_time")), *(["--share"] if share else [])]
+        words += [] if cycle is None else ["--cycle", f"{number(cycle, 64, 'cycle')}ns"]
+        with tempfile.TemporaryDirectory(prefix="taprio-") as folder:
+            pathlib.Path(folder, "table").write_bytes(table)
+            status, text, output = self._ran([*words, "table"], b"", folder, also=NO_PLAN)
+        if status:
+            raise of_text(status, text, output)
+        return output
 
     def draw(
         self,

@@ -1,4 +1,5 @@
-"""Streams of frames, a run of a schedule with them, the frames of a run, and the bounds of their waits, at a port and through a network."""
+"""Streams of frames, a run of a schedule with them, the frames of a run, the bounds of their waits, at a port and through a network, and schedules
+for them."""
 
 from __future__ import annotations
 
@@ -11,9 +12,9 @@ from .jobs import lines
 from .library import Octets, octets
 from .program import Chosen, backend
 from .results import Bounds, Frames, Paths, Run, of_answers, read_bounds, read_frames, read_paths
-from .schedules import Configured, Schedule
+from .schedules import Configured, Schedule, read
 
-__all__ = ["Stream", "bounds", "frames", "paths", "run_streams", "table"]
+__all__ = ["Stream", "bounds", "frames", "paths", "plan", "run_streams", "table"]
 
 GREATEST = 9_223_372_036_854_775_807
 """The greatest moment, in nanoseconds."""
@@ -224,3 +225,31 @@ def paths(
     raises `BadInput`. What runs it is `port`, as `taprio.backend` says. Times of the answer are picoseconds."""
     told = backend(port).paths(network, _of_ports(schedules), rate=rate, mtu=mtu, room=room, frames=frames, silent=silent, leftovers=leftovers)
     return read_paths(told)
+
+
+def plan(
+    streams: Union[Iterable[Stream], Octets],
+    *,
+    rate: int = 1000,
+    mtu: int = 1500,
+    room: int = 128,
+    cycle: int | None = None,
+    entries: int = 256,
+    least_interval: int = 0,
+    base_time: int = 0,
+    share: bool = False,
+    device: str = "eth0",
+    port: Chosen = None,
+) -> list[Configured]:
+    """A schedule by which the streams meet their deadlines, for ever: one `Configured`, or of a network one for each port that its streams cross,
+    whose name is in `device`. `bounds`, or `paths`, meet every deadline with them. Where none is found, `NoPlan` is raised: there may be one even so.
+
+    `streams` may also be a table, or the text of a network. `rate`, in Mb/s, `mtu`, in octets, and `room`, in frames of a class, are those of
+    `bounds`. Times are nanoseconds: `cycle`, 1 to 4294967295, where it is given; `least_interval`, which each entry has at the least, 0 to
+    4294967295; and `base_time`, at most 2^63 - 1. `entries`, 1 to 256, is how many a schedule has at most. With `share` classes without deadlines
+    may use what the windows of higher ones leave. `device` is the device where no port is named. A bad line raises `BadInput`. What runs it
+    is `port`, as `taprio.backend` says."""
+    told = backend(port).plan(
+        _table(streams), rate=rate, mtu=mtu, room=room, cycle=cycle, entries=entries, least_interval=least_interval, base_time=base_time, share=share, device=device
+    )
+    return read(told, "tc") if told else []

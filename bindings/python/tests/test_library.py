@@ -4,6 +4,7 @@ import dataclasses
 import ctypes.util
 import os
 import pathlib
+import pickle
 import struct
 import tempfile
 import threading
@@ -282,6 +283,68 @@ class Paths:
                 self.port.paths("", "", **values)
 
 
+class Plans:
+    """What is asked of the library where it has the call, and of the program."""
+
+    TABLE = "stream 1 7 60 250us 20us 1 deadline 20us\n"
+    LINE = (
+        "tc qdisc replace dev {} parent root handle 100 taprio num_tc 2 map 0 0 0 0 0 0 0 1 0 0 0 0 0 0 0 0 queues 1@0 1@1 base-time {} "
+        "cycle-time {} sched-entry {} clockid CLOCK_TAI\n"
+    )
+
+    def test_plans(self):
+        usual = "S 01 20000 sched-entry S 02 672 sched-entry S 01 229328"
+        for table, asked, wanted in (
+            (self.TABLE, {}, ("eth0", 0, 250000, usual)),
+            (bytearray(self.TABLE, "ascii"), {"device": "swp3", "base_time": 250000, "share": False}, ("swp3", 250000, 250000, usual)),
+            (self.TABLE, {"cycle": 125000, "least_interval": 1000, "entries": 2}, ("eth0", 0, 125000, "S 02 21000 sched-entry S 01 104000")),
+            (self.TABLE, {"rate": 100, "mtu": 1000, "room": 7}, ("eth0", 0, 250000, "S 01 20000 sched-entry S 02 6720 sched-entry S 01 223280")),
+            (f"{self.TABLE[:-1]} via a\n", {}, ("a", 0, 250000, usual)),
+        ):
+            with self.subTest(table=table, asked=asked):
+                self.assertEqual(self.port.plan(table, **asked).decode(), self.LINE.format(*wanted))
+
+    def test_none(self):
+        with self.assertRaises(taprio.NoPlan) as raised:
+            self.port.plan("stream 1 7 60 250us 20us 1 deadline 1ns\n")
+        for fault in (raised.exception, pickle.loads(pickle.dumps(raised.exception))):
+            self.assertEqual((str(fault), fault.reason), ("plan: no schedule is found: none deadline 1", "none deadline 1"))
+
+    def test_faults_of_plans(self):
+        for table, found in (
+            ("streams\n", ("table", 1, "UnknownLine")),
+            (f"{self.TABLE}stream 1 7 60 0ms 0us 1\n", ("table", 2, "BadNumber")),
+            ("link a b\n", ("network", 1, "WordCount")),
+        ):
+            with self.subTest(found), self.assertRaises(taprio.BadInput) as raised:
+                self.port.plan(table)
+            fault = raised.exception
+            self.assertEqual((fault.input, fault.line, fault.name, fault.output), (*found, b""))
+
+    def test_values_of_plans(self):
+        for option, values in (
+            ("--rate", {"rate": 1001}),
+            ("--mtu", {"mtu": 9217}),
+            ("--room", {"room": 0}),
+            ("--cycle", {"cycle": 0}),
+            ("--cycle", {"cycle": 2**32}),
+            ("--cycle", {"cycle": -1}),
+            ("--entries", {"entries": 0}),
+            ("--entries", {"entries": 257}),
+            ("--least-interval", {"least_interval": 2**32}),
+            ("--base-time", {"base_time": 2**63}),
+            ("--device", {"device": ""}),
+            ("--device", {"device": "a/b"}),
+            ("--device", {"device": "-" * 16}),
+        ):
+            with self.subTest(values), self.assertRaises(taprio.BadValue) as raised:
+                self.port.plan(self.TABLE, **values)
+            self.assertEqual(raised.exception.option, option)
+        for values in ({"cycle": 1.0}, {"entries": "2"}, {"base_time": True}):
+            with self.subTest(values), self.assertRaises(TypeError):
+                self.port.plan(self.TABLE, **values)
+
+
 class Examples:
     def test_scripts(self):
         for name in ("first", "priorities", "schedule", "manual", "guard_band", "extension"):
@@ -467,6 +530,8 @@ class OverTheLibrary(Examples, Faults, Room, unittest.TestCase):
                     taprio.library.bounds("", "", **asked)
             with self.assertRaisesRegex(taprio.LibraryMissing, "no taprio_paths: build it again"):
                 taprio.library.paths("", "")
+            with self.assertRaisesRegex(taprio.LibraryMissing, "no taprio_plan: build it again"):
+                taprio.library.plan("")
 
 
 @support.wants_library
@@ -484,6 +549,12 @@ class BoundsAskedOverTheLibrary(BoundsAsked, unittest.TestCase):
 @support.wants_library
 @unittest.skipUnless(support.HAS_PATHS, "this library has no taprio_paths: build it again with bindings/c/build")
 class PathsOverTheLibrary(Paths, unittest.TestCase):
+    port = taprio.Library()
+
+
+@support.wants_library
+@unittest.skipUnless(support.HAS_PLAN, "this library has no taprio_plan: build it again with bindings/c/build")
+class PlansOverTheLibrary(Plans, unittest.TestCase):
     port = taprio.Library()
 
 
@@ -519,7 +590,7 @@ class Moments(unittest.TestCase):
 
 
 @support.wants_program
-class OverTheProgram(Examples, Faults, Room, Bounds, BoundsAsked, Paths, Frames, FramesByStream, FramesOfCapture, unittest.TestCase):
+class OverTheProgram(Examples, Faults, Room, Bounds, BoundsAsked, Paths, Plans, Frames, FramesByStream, FramesOfCapture, unittest.TestCase):
     port = taprio.Program(support.PROGRAM or "taprio_port")
 
     def test_no_program(self):

@@ -810,6 +810,43 @@ class Paths(unittest.TestCase):
             self.assertEqual(way.paths, (results.PathBound(9, "within", one.least_end, one.greatest_end),))
 
 
+class Plans(unittest.TestCase):
+    @support.wants_plan
+    def test_a_table(self):
+        """Streams and their table have one plan, which meets each deadline."""
+        streams = [dataclasses.replace(CONTROL, deadline=60_000), taprio.Stream(9, 5, 1514, 500_000, None, deadline=400_000)]
+        (planned,) = taprio.plan(streams, base_time=1_000_000, device="swp3", port=support.PLAN)
+        self.assertEqual([planned], taprio.plan(taprio.table(streams), base_time=1_000_000, device="swp3", port=support.PLAN))
+        self.assertEqual((planned.device, planned.schedule.base_time), ("swp3", 1_000_000))
+        found = taprio.bounds(planned.schedule, streams, port=support.PLAN)
+        self.assertEqual([it.met for it in found.schedules[0].streams], [True, True])
+        self.assertTrue(found.met)
+        short = taprio.plan(streams, entries=5, least_interval=10_000, cycle=125_000, share=True, port=support.PLAN)[0].schedule
+        self.assertEqual(short.cycle_time, 125_000)
+        self.assertLessEqual(len(short.entries), 5)
+        self.assertGreaterEqual(min(it.interval for it in short.entries), 10_000)
+        slow = taprio.plan(streams, rate=100, room=7, port=support.PLAN)[0].schedule
+        self.assertTrue(taprio.bounds(slow, streams, rate=100, room=7, port=support.PLAN).met)
+        with self.assertRaises(taprio.NoPlan):
+            taprio.plan(streams, mtu=1000, port=support.PLAN)
+
+    @support.wants_plan
+    def test_a_network(self):
+        """Each port that streams cross has a schedule, and with them each deadline is met."""
+        network = "link a b 2us 3us\nstream 1 7 64 500us 20us 1 deadline 60us via a b\nstream 9 6 200 1ms any 1 deadline 900us via a b\n"
+        planned = taprio.plan(network, port=support.PLAN)
+        self.assertEqual([it.device for it in planned], ["a", "b"])
+        self.assertTrue(taprio.paths(network, {it.device: it for it in planned}, port=support.PLAN).met)
+
+    @support.wants_plan
+    def test_none(self):
+        with self.assertRaises(taprio.NoPlan) as raised:
+            taprio.plan([dataclasses.replace(CONTROL, deadline=1)], port=support.PLAN)
+        self.assertEqual(raised.exception.reason, "none deadline 1")
+        with self.assertRaises(TypeError):
+            taprio.plan(None, port=support.PLAN)
+
+
 class Streams(unittest.TestCase):
     def test_tables(self):
         self.assertEqual(CONTROL.line(), "stream 1 6 64 250000ns 1000000ns 4")
