@@ -13,7 +13,7 @@ export class Runner {
 
   /**
    * @param {string} source the worker's script
-   * @param {Uint8Array} octets the WebAssembly module
+   * @param {Uint8Array} octets the WebAssembly module, packed as deflate-raw
    */
   constructor(source, octets) {
     this.#source = source;

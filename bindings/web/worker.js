@@ -10,7 +10,13 @@ let module = null;
 let broken = "";
 
 async function answer({ octets, request }) {
-  if (octets) module = await WebAssembly.compile(octets).catch((error) => ((broken = error.message), null));
+// The port's module, of octets that are packed as deflate-raw.
+async function compiled(packed) {
+  const octets = new Blob([packed]).stream().pipeThrough(new DecompressionStream("deflate-raw"));
+  return WebAssembly.compile(await new Response(octets).arrayBuffer());
+}
+
+  if (octets) module = await compiled(octets).catch((error) => ((broken = error.message), null));
   if (broken) throw new Error(`The port's module does not compile in this browser (${broken}). ${INSTEAD}`);
   if (!request) return { ready: true };
   const begun = performance.now();
