@@ -1506,6 +1506,19 @@ function textOf(octets) {
   return form ? importOf(text, form, "") : text;
 }
 
+// The classic capture of one in pcapng, or null where it can't be read. It is said either way.
+async function classicCapture(octets) {
+  try {
+    const told = await runner.run({ job: "classic", octets });
+    const rounded = told.isRounded ? " Note: moments are rounded down to whole nanoseconds." : "";
+    sayRead(`This is a capture in pcapng: read as a classic one of ${count(told.packets, "frame")}.${rounded}`);
+    return told.octets;
+  } catch (error) {
+    sayRead(`This is a capture in pcapng, and can't be read: ${error.message}. What stood here stays.`, true);
+    return null;
+  }
+}
+
 // Takes a file by what its octets are.
 async function takeFile(file) {
   sayRead("");
@@ -1515,10 +1528,12 @@ async function takeFile(file) {
     say(`${file.name}: ${kind.why}`);
     return;
   }
-  if (kind.kind === "capture") {
+  if (["capture", "pcapng"].includes(kind.kind)) {
+    const classic = kind.kind === "capture" ? octets : await classicCapture(octets);
+    if (!classic) return;
     beginAnother();
     setJob("replay");
-    setCapture(octets, file.name);
+    setCapture(classic, file.name);
     // (the frames of a replay are those of the capture)
     if (FRAME_LINE.test(editor.text)) editor.text = editor.text.split("\n").filter((it) => !FRAME_LINE.test(it)).join("\n");
     at("until").value = "";
@@ -1586,8 +1601,8 @@ async function takeAsScript() {
   await load({ job: "script", rate, mtu, room, text, other: its });
 }
 
-// A file may be dropped anywhere, and the page shows so while it is dragged; text that is dragged stays with the browser.
-function listenToDrops() {
+// A file may be dropped or pasted anywhere, and the page shows so while it is dragged; text that is dragged stays with the browser.
+function listenToFiles() {
   const mark = (is) => document.body.classList.toggle("dropping", is);
   const isFile = (event) => event.dataTransfer?.types.includes("Files");
   addEventListener("dragover", (event) => {
@@ -1601,6 +1616,12 @@ function listenToDrops() {
     if (!isFile(event)) return;
     event.preventDefault();
     if (event.dataTransfer.files[0]) takeFile(event.dataTransfer.files[0]);
+  });
+  addEventListener("paste", (event) => {
+    const [file] = event.clipboardData?.files ?? [];
+    if (!file) return;
+    event.preventDefault();
+    takeFile(file);
   });
 }
 
@@ -1670,7 +1691,7 @@ function listenToResults() {
 function listen() {
   listenToInput();
   listenToResults();
-  listenToDrops();
+  listenToFiles();
   addEventListener("hashchange", openLink);
   addEventListener("keydown", undoByKey);
   for (const name of ["pagehide", "visibilitychange"]) addEventListener(name, () => keepNow());

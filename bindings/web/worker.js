@@ -4,18 +4,19 @@ import { changesOf, kindsOf, readScript } from "./script.js";
 import { byClass, droppedIn, framesOf } from "./frames.js";
 import { historyOf, sentByStart } from "./why.js";
 import { timesOf } from "./shades.js";
+import { classicOf } from "./pcapng.js";
 import { INSTEAD } from "./support.js";
 
 let module = null;
 let broken = "";
 
-async function answer({ octets, request }) {
 // The port's module, of octets that are packed as deflate-raw.
 async function compiled(packed) {
   const octets = new Blob([packed]).stream().pipeThrough(new DecompressionStream("deflate-raw"));
   return WebAssembly.compile(await new Response(octets).arrayBuffer());
 }
 
+async function answer({ octets, request }) {
   if (octets) module = await compiled(octets).catch((error) => ((broken = error.message), null));
   if (broken) throw new Error(`The port's module does not compile in this browser (${broken}). ${INSTEAD}`);
   if (!request) return { ready: true };
@@ -42,7 +43,7 @@ function fatesIn({ script, answers, values }) {
 }
 
 // What is done beside the program's jobs.
-const OWN = { fates: fatesIn, moments: ({ words }) => ({ moments: readMoments(module, words) }) };
+const OWN = { fates: fatesIn, moments: ({ words }) => ({ moments: readMoments(module, words) }), classic: ({ octets }) => classicOf(octets) };
 
 let last = Promise.resolve();
 
