@@ -80,6 +80,9 @@ let drawing = false; // whether a picture is drawn for itself
 let again = false; // whether it is to be drawn once more
 let moving = false; // whether what is moved by hand is run
 let moved = false; // and whether it was moved since
+let another = true; // whether what is run next is another input than that which is shown
+let beforeMove = null; // what the run before a move by hand came to
+let notTaken = []; // the commands of the last run that were not taken: their lines, and what was said of them
 
 const COMPARED = ["script", "bounds", "paths", "streams", "replay"]; // the jobs of which another schedule is run, too
 const JUDGED = ["bounds", "paths"]; // the jobs that judge streams for ever, under schedules that stand alone in the text
@@ -143,20 +146,21 @@ const DIFFERENCE_COLUMNS = [["of", "Of", "text"], ["what", "What", "text"], ["on
 const boundsTable = ({ slack, why }) => `bounds${slack ? " slack" : ""}${why ? " why" : ""}`;
 const columns = (list) => list.map(([name, title, kind]) => ({ name, title, kind }));
 const HOW = { time: writeTime, moment: writeAt, measure: writeTime, change: writeChange };
+const tableOf = (box, list, ...keys) => new Table(at(box), columns(list), { ...HOW, keys });
 const tables = {
-  script: new Table(at("classes"), columns(CLASS_COLUMNS), HOW),
-  replay: new Table(at("classes"), columns(CLASS_COLUMNS), HOW),
-  streams: new Table(at("classes"), columns(CLASS_COLUMNS), HOW),
-  check: new Table(at("classes"), columns(WINDOW_COLUMNS), HOW),
-  paths: new Table(at("classes"), columns(PATH_COLUMNS), HOW),
+  script: tableOf("classes", CLASS_COLUMNS, "class"),
+  replay: tableOf("classes", CLASS_COLUMNS, "class"),
+  streams: tableOf("classes", CLASS_COLUMNS, "class"),
+  check: tableOf("classes", WINDOW_COLUMNS, "schedule", "class"),
+  paths: tableOf("classes", PATH_COLUMNS, "id"),
 };
-const hopTable = new Table(at("hops"), columns(HOP_COLUMNS), HOW);
-const portTable = new Table(at("ports"), columns(PORT_COLUMNS), HOW);
+const hopTable = tableOf("hops", HOP_COLUMNS, "id", "port");
+const portTable = tableOf("ports", PORT_COLUMNS, "port", "class");
 // What is asked of bounds says which columns they have.
 for (const slack of [false, true])
-  for (const why of [false, true]) tables[boundsTable({ slack, why })] = new Table(at("classes"), columns(boundColumns({ slack, why })), HOW);
-const differenceTable = new Table(at("differences"), columns(DIFFERENCE_COLUMNS), HOW);
-const frameTable = new Table(at("frames-table"), columns(FRAME_COLUMNS), { ...HOW, choose: (frame) => chooseFrame(frame, true) });
+  for (const why of [false, true]) tables[boundsTable({ slack, why })] = tableOf("classes", boundColumns({ slack, why }), "id");
+const differenceTable = tableOf("differences", DIFFERENCE_COLUMNS);
+const frameTable = new Table(at("frames-table"), columns(FRAME_COLUMNS), { ...HOW, keys: ["id"], choose: (frame) => chooseFrame(frame, true) });
 
 // 2. The picture
 
@@ -459,6 +463,7 @@ function addressOf(link, content, type) {
 function showAnswers(name, output, text) {
   const end = text.length > SHOWN ? text.lastIndexOf("\n", SHOWN) + 1 : text.length;
   at("answers").textContent = text.slice(0, end);
+  markNewLines();
   at("cut").hidden = end === text.length;
   at("cut").textContent = `The first ${end.toLocaleString("en")} of ${text.length.toLocaleString("en")} characters are shown; saved are all.`;
   addressOf(at("save-answers"), output, "text/plain");
@@ -479,6 +484,8 @@ function showRefused(name, text, answers) {
     item.append(button);
     return item;
   });
+  notTaken = refused.map(({ line: number, answer }) => ({ line: number, said: answer }));
+  editor.underline(notTaken);
   at("refused-list").replaceChildren(...items);
   at("refused").hidden = items.length === 0;
 }
@@ -500,36 +507,64 @@ function windowsIn(answers) {
   return found;
 }
 
+// The rows of the table of numbers that a run comes to.
+const numbersOf = (run) => (run.job === "check" ? run.windows : JUDGED.includes(run.job) ? run.paths?.paths ?? run.bounds[chosen()]?.streams ?? [] : run.classes);
+
 function showTables() {
-  const rows = { script: () => ran.classes, replay: () => ran.classes, check: () => ran.windows, bounds: () => streamsOf(ran), paths: () => streamsOf(ran), streams: () => ran.classes }[ran.job]();
+  const rows = numbersOf(ran);
   for (const name of ["results-name", "numbers"]) at(name).hidden = !rows.length && !ran.frames.length;
   at("classes").hidden = !rows.length;
   at("save-table").hidden = !rows.length;
+  let changed = 0;
   if (rows.length) {
     const table = tables[ran.job === "bounds" ? boundsTable(ran.values) : ran.job];
-    table.show(rows);
+    changed += table.show(rows, ran.since && numbersOf(ran.since));
     addressOf(at("save-table"), encoded(table.csv), "text/csv");
   }
-  showHops();
+  changed += showHops();
+  sayChanged(changed);
   showDifferences();
   at("frames-box").hidden = !ran.frames.length;
   at("frames-name").textContent = `Frames (${ran.frames.length.toLocaleString("en")})`;
   if (at("frames-box").open) showFrames();
 }
 
-// The waits at the ports of a network, and their classes.
+// The waits at the ports of a network, and their classes; how many values are marked.
 function showHops() {
   at("hops-box").hidden = !ran.paths?.classes.length;
-  if (at("hops-box").hidden) return;
-  for (const [name, table, rows] of [["hops", hopTable, ran.paths.hops], ["ports", portTable, ran.paths.classes]]) {
-    table.show(rows);
+  if (at("hops-box").hidden) return 0;
+  let changed = 0;
+  for (const [name, table, rows] of [["hops", hopTable, "hops"], ["ports", portTable, "classes"]]) {
+    changed += table.show(ran.paths[rows], ran.since?.paths && ran.since.paths[rows]);
     addressOf(at(`save-${name}`), encoded(table.csv), "text/csv");
   }
+  return changed;
 }
 
 function showFrames() {
   if (!ran) return;
-  frameTable.show(ran.frames);
+  frameTable.show(ran.frames, ran.since?.frames);
+}
+
+// Says how many numbers are others than before the last change, where what is shown is compared with that.
+function sayChanged(changed) {
+  at("changed").textContent = !ran.since ? "" : changed ? `Marked: ${count(changed, "value")} that the last change altered.` : "The last change altered none of these numbers.";
+}
+
+// Marks the lines of the answers that were not there before the last change.
+function markNewLines() {
+  if (!CSS.highlights) return; // (the tables are marked all the same)
+  CSS.highlights.delete("changed");
+  const text = at("answers").firstChild;
+  if (!ran.since || !text) return;
+  const earlier = new Set(ran.since.answers.split("\n"));
+  const ranges = [];
+  let begin = 0;
+  for (const line of text.data.split("\n")) {
+    if (!earlier.has(line)) ranges.push(new StaticRange({ startContainer: text, startOffset: begin, endContainer: text, endOffset: begin + line.length }));
+    begin += line.length + 1;
+  }
+  CSS.highlights.set("changed", new Highlight(...ranges));
 }
 
 // Saves the port's own table of the frames of the script that was run; of a table of streams with the stream of each frame.
@@ -550,7 +585,10 @@ async function saveFrames() {
 
 function clearFault() {
   at("fault").hidden = true;
-  for (const part of [editor, beside]) part.markLine(null);
+  for (const part of [editor, beside]) {
+    part.markLine(null);
+    part.underline(part === editor && ran?.text === editor.text ? notTaken : []);
+  }
   for (const input of document.querySelectorAll(".options [aria-invalid], #zoom [aria-invalid]")) input.removeAttribute("aria-invalid");
 }
 
@@ -558,7 +596,7 @@ function clearFault() {
 const editorOf = (source) => (hasBeside(job()) && source === SECOND[job()] ? beside : editor);
 
 function showFault(text, input = null) {
-  const { text: words, line: number, source } = explain(text);
+  const { text: words, line: number, source, said } = explain(text);
   const second = number !== null && editorOf(source) === beside ? { streams: "Script: ", bounds: "Table: ", paths: "Network: " }[job()] : "";
   at("fault-text").textContent = `${second}${words}`;
   at("fault-hint").textContent = number === null ? "" : HINTS[job()];
@@ -566,7 +604,11 @@ function showFault(text, input = null) {
   if (field?.matches("input, select")) field.setAttribute("aria-invalid", "true");
   const folded = field?.closest("details");
   if (folded) folded.open = true;
-  if (number !== null) editorOf(source).markLine(number);
+  if (number !== null) {
+    const part = editorOf(source);
+    part.markLine(number);
+    part.underline([...(part === editor && ran?.text === editor.text ? notTaken : []), { line: number, said }]);
+  }
   at("go").hidden = number === null && !field;
   at("fault").classList.remove("stale");
   at("go").textContent = !field ? "Go to the line" : input === "capture" ? "Go to the capture" : "Go to the option";
@@ -679,7 +721,17 @@ async function snapshot() {
   const values = await valuesFor(name, readMoments);
   if (name === "replay" && !second.length) throw new BadOption("capture", "No capture is chosen: choose a classic pcap file, or drop one on the page.");
   const { rate, mtu, room } = values;
-  return { job: name, text, beside: second, besideText: beside.text, otherText: COMPARED.includes(name) ? other.text.trimEnd() : "", other: null, values, port: { rate, mtu, room }, until: null, frames: [], wire: [], times: timesOf([]), classes: [], changes: [], history: null, kinds: null, first: 0n, last: 0n, windows: [], bounds: [], paths: null, schedules: [], source: null, why: "", drawn: null, window: null, waits: null };
+  return { job: name, text, beside: second, besideText: beside.text, otherText: COMPARED.includes(name) ? other.text.trimEnd() : "", other: null, values, port: { rate, mtu, room }, until: null, frames: [], wire: [], times: timesOf([]), classes: [], changes: [], history: null, kinds: null, first: 0n, last: 0n, windows: [], bounds: [], paths: null, schedules: [], source: null, why: "", drawn: null, window: null, waits: null, since: null };
+}
+
+// What a run came to, as far as the next one is compared with it.
+const gistOf = ({ job: name, values, classes, windows, bounds, paths, frames, answers }) => ({ job: name, values, classes, windows, bounds, paths, frames, answers });
+
+// What a run is compared with: the run before the last change of the same input, where that is short; and before the whole of a move by hand.
+function sinceOf(before, next) {
+  if (another || !before || before.job !== next.job || !isShort()) return null;
+  if (beforeMove) return beforeMove;
+  return isSame(before, next) && before.otherText === next.otherText ? before.since : gistOf(before);
 }
 
 // Does a job for a run, and null where another run has begun since.
@@ -799,6 +851,8 @@ async function work(mine, typed) {
   ran.answers = answers;
   // (of a long script the picture is drawn first, and its frames are found then)
   const late = ran.job === "script" && told.status === 0 && answers.length > LONG;
+  ran.since = late ? null : sinceOf(before, next);
+  another = false;
   if (late) ran.source = ran.text;
   else if (told.status === 0) {
     await takeOwn(mine, answers);
@@ -912,6 +966,7 @@ const isShort = () => editor.text.length + other.text.length + (hasBeside(job())
 // What stands in the page was changed: it is run after a moment without another change, where it is short.
 function runSoon() {
   clearTimeout(runTimer);
+  if (!document.body.classList.contains("moving")) beforeMove = null;
   showGates();
   if (isShort()) {
     setStale(true, "");
@@ -950,6 +1005,7 @@ function sayOther(words, line = null) {
   at("other-fault").hidden = !words;
   at("other-fault").textContent = words;
   other.markLine(line);
+  other.underline(line === null ? [] : [{ line, said: words.replace(/^Line \d+: /, "") }]);
 }
 
 // Whether two runs are of one input: then what stood beside the first can stand beside the second.
@@ -1129,6 +1185,7 @@ function openGates() {
 function noteGates(source) {
   const part = gateEditors()[source];
   const typed = part.fresh ? null : part.put;
+  beforeMove = ran && gistOf(ran);
   notePast();
   if (typed !== null) past.splice(-1, 0, { ...past.at(-1), [["text", "beside", "other"][editors.indexOf(part)]]: typed });
 }
@@ -1227,6 +1284,7 @@ const stateNow = () => ({ job: jobShown, ...wordsOfOptions(), ...(hasBeside(jobS
 
 // Puts a text, its kind and its options into the page, and runs it.
 function load(state) {
+  another = true;
   setJob(NAMES[state.job] ? state.job : "script");
   // (the picture of a check, and of a port, is of two cycles of the schedule that is chosen)
   setOptions(ALONE.includes(state.job) ? { ...state, from: "", to: "" } : state);
@@ -1421,6 +1479,7 @@ function dropLink() {
 
 // Another text of one's own begins: what stood here is kept as it is.
 function beginAnother() {
+  another = true;
   if (!editor.text.trim()) return;
   notePast();
   if (exampleShown === OWN) entry = {};
