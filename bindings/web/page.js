@@ -365,7 +365,7 @@ async function draw(mine) {
   if (ran.source === null) return hidePicture(ran.why);
   const values = await drawValues();
   if (mine !== turn) return undefined;
-  const told = await ask(mine, { job: "draw", input: encoded(ran.source), beside: new Uint8Array(), values });
+  const told = await ask(mine, { job: "draw", text: ran.source, beside: new Uint8Array(), values });
   if (!told) return undefined;
   if (told.status === 0) {
     await drawOther(mine, told, values);
@@ -571,7 +571,7 @@ function markNewLines() {
 async function saveFrames() {
   const { job: name, source, text, values, until } = ran;
   const table = encoded(name === "streams" ? text : "");
-  const told = await runner.run({ job: "frames", input: encoded(source), beside: table, values: { ...values, until } });
+  const told = await runner.run({ job: "frames", text: source, beside: table, values: { ...values, until } });
   if (told.status !== 0) {
     showFault(told.fault);
     return;
@@ -616,17 +616,11 @@ function showFault(text, input = null) {
   at("fault").hidden = false;
 }
 
-function linesIn(output) {
-  let lines = 0;
-  for (const octet of output) if (octet === 10) lines += 1;
-  return lines;
-}
-
-function sayStatus({ status, output, time }) {
+function sayStatus({ status, lines, time }) {
   const names = { 0: "Done", 2: "A value is refused", 3: "The input has a fault", 4: "Out of memory" };
   clearTimeout(slow);
   const after = status === 3 ? " before it" : "";
-  ran.said = `${names[status]}: ${count(linesIn(output), "line")}${after}, in ${time.toFixed(time < 10 ? 1 : 0)} ms (status ${status}).`;
+  ran.said = `${names[status]}: ${count(lines, "line")}${after}, in ${time.toFixed(time < 10 ? 1 : 0)} ms (status ${status}).`;
   say(ran.said, status === 0);
 }
 
@@ -742,8 +736,8 @@ async function ask(mine, request) {
 
 // What a script and its answers come to.
 async function takeRun(mine, run, script, until, answers) {
-  const told = await ask(mine, { job: "fates", script, answers, values: { ...run.values, until } });
-  if (told) Object.assign(run, { frames: told.frames, wire: told.wire, times: told.times, classes: told.classes, changes: told.changes, history: told.history, kinds: told.kinds, first: told.first, last: told.last, source: script, until, waits: null });
+  const told = await ask(mine, { job: "fates", text: script, answers, values: { ...run.values, until } });
+  if (told) Object.assign(run, { frames: told.frames, wire: Array.from(told.order, (place) => told.frames[place]), times: told.times, classes: told.classes, changes: told.changes, history: told.history, kinds: told.kinds, first: told.first, last: told.last, source: script, until, waits: null });
   if (told && ["script", "replay"].includes(run.job)) run.window = windowOf(run);
 }
 
@@ -752,7 +746,7 @@ async function takeSchedule(mine) {
   const { number, name, line: text } = chosenSchedule() ?? {};
   if (number === undefined) return;
   if (ran.job === "paths") ran.port = valuesOfPort(ran.besideText, name, ran.values);
-  const told = await ask(mine, { job: "script", input: encoded(`${text}\n`), beside: new Uint8Array(), values: { ...ran.values, ...ran.port, until: null, summary: false } });
+  const told = await ask(mine, { job: "script", text: `${text}\n`, beside: new Uint8Array(), values: { ...ran.values, ...ran.port, until: null, summary: false } });
   if (!told) return;
   await takeRun(mine, ran, `${text}\n`, null, new TextDecoder().decode(told.output));
   const [it] = ran.changes;
@@ -768,7 +762,7 @@ async function takeSchedule(mine) {
 async function takeScript(mine, run, script) {
   const until = readScript(script).last + GOES_ON;
   const values = { ...run.values, until: until < GREATEST ? until : GREATEST };
-  const told = await ask(mine, { job: "script", input: encoded(script), beside: new Uint8Array(), values });
+  const told = await ask(mine, { job: "script", text: script, beside: new Uint8Array(), values });
   if (!told) return;
   if (told.status === 0) {
     run.told = new TextDecoder().decode(told.output);
@@ -812,7 +806,7 @@ async function takeCheck(mine, answers) {
 }
 
 // What a check tells of schedules, with their windows.
-const checkWindows = (mine, text) => ask(mine, { job: "check", input: encoded(text), beside: new Uint8Array(), values: { ...ran.values, windows: true } });
+const checkWindows = (mine, text) => ask(mine, { job: "check", text, beside: new Uint8Array(), values: { ...ran.values, windows: true } });
 
 // What the answers of what stands in the page come to, and which of its schedules is shown.
 async function takeOwn(mine, answers) {
@@ -834,7 +828,7 @@ const staysShown = (typed) => typed && ran !== null && !viewer.isHeld;
 async function work(mine, typed) {
   const next = await snapshot();
   if (mine !== turn) return;
-  const told = await ask(mine, { job: next.job, input: encoded(next.text), beside: next.beside, values: next.values });
+  const told = await ask(mine, { job: next.job, text: next.text, beside: next.beside, values: next.values });
   if (!told) return;
   clearFault();
   if (staysShown(typed) && told.status !== 0) {
@@ -858,35 +852,56 @@ async function work(mine, typed) {
     await takeOwn(mine, answers);
     if (mine === turn) await takeOther(mine, typed ? before : null);
   }
-  if (mine !== turn) return;
-  fillOrigins(ran);
-  at("results").hidden = false;
-  setStale(false);
-  showAnswers(ran.job, told.output, answers);
-  showRefused(ran.job, ran.text, answers);
-  showTables();
-  at("save-departures").hidden = true;
-  if (ran.job === "replay") addressOf(at("save-departures"), told.departures, "application/vnd.tcpdump.pcap");
-  sayStatus(told);
-  clearVerdict(late ? LOOKING : "");
+  if (!(await showRun(mine, told, answers, late))) return;
   if (told.status !== 0) {
     showFault(told.fault);
     hidePicture(["script", "replay", "check"].includes(ran.job) ? "No picture: the run has a fault." : "");
     return;
   }
-  if (!late) sayVerdict(answers);
   await draw(mine);
   if (late && mine === turn) await takeLate(mine, answers, typed ? before : null);
+}
+
+// Does steps one after another; where the answers are long with a pause between them, so that a key waits for one of them alone. False where another
+// run has begun since.
+async function inSteps(mine, ...steps) {
+  for (const step of steps) {
+    if (mine !== turn) return false;
+    step();
+    if (ran.answers.length > LONG) await new Promise((resolve) => setTimeout(resolve));
+  }
+  return mine === turn;
+}
+
+// Shows what a run came to, but for its picture.
+function showRun(mine, told, answers, late) {
+  return inSteps(
+    mine,
+    () => {
+      fillOrigins(ran);
+      at("results").hidden = false;
+      setStale(false);
+    },
+    () => showAnswers(ran.job, told.output, answers),
+    () => showRefused(ran.job, ran.text, answers),
+    () => {
+      showTables();
+      at("save-departures").hidden = true;
+      if (ran.job === "replay") addressOf(at("save-departures"), told.departures, "application/vnd.tcpdump.pcap");
+    },
+    () => {
+      sayStatus(told);
+      clearVerdict(late ? LOOKING : "");
+      if (!late && told.status === 0) sayVerdict(answers);
+    },
+  );
 }
 
 // The frames of a long script, when its picture stands already.
 async function takeLate(mine, answers, before) {
   await takeOwn(mine, answers);
   if (mine === turn) await takeOther(mine, before);
-  if (mine !== turn) return;
-  fillOrigins(ran);
-  showTables();
-  sayVerdict(answers);
+  if (!(await inSteps(mine, () => fillOrigins(ran), () => showTables(), () => sayVerdict(answers)))) return;
   if (ran.window || ran.other) await draw(mine);
   else if (ran.drawn) layPicture();
 }
@@ -1043,7 +1058,7 @@ async function takeOther(mine, before) {
 
 async function runOther(mine, words, windows, before) {
   const run = { ...ran, ...inputOfOther(words), source: null, drawn: null };
-  const told = await ask(mine, { job: run.job, input: encoded(run.text), beside: run.beside, values: run.values });
+  const told = await ask(mine, { job: run.job, text: run.text, beside: run.beside, values: run.values });
   if (!told) return;
   run.answers = new TextDecoder().decode(told.output);
   if (told.status === 0) await takeAnswers(mine, run, run.answers);
@@ -1084,7 +1099,7 @@ async function drawOther(mine, { output }, values) {
   const its = ran.other;
   if (!its) return;
   const shown = its.source === null ? null : shownIn(new TextDecoder().decode(output), values);
-  const told = shown && (await ask(mine, { job: "draw", input: encoded(its.source), beside: new Uint8Array(), values: { ...values, ...shown } }));
+  const told = shown && (await ask(mine, { job: "draw", text: its.source, beside: new Uint8Array(), values: { ...values, ...shown } }));
   if (mine !== turn) return;
   its.drawn = told?.status === 0 ? { text: new TextDecoder().decode(told.output), shown } : null;
   if (its.drawn) addressOf(at("save-other-picture"), told.output, "image/svg+xml");

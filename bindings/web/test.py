@@ -2191,6 +2191,35 @@ def try_stop(page):
     page.same("drawn after a stop", page.text("status")[:4], "Done")
 
 
+LONGEST = 200  # milliseconds of a task of the page: no key is heard meanwhile
+
+
+def try_blocks(page):
+    """A file of 400,000 frames is taken, drawn, zoomed and pointed at without a long task: by the time of the processor, which Chromium tells."""
+    if not isinstance(page.browser, Chromium):
+        return
+    page.choose("first.script")
+    page.do("""const frames = Array.from({ length: 400000 }, (_, i) => `frame ${i} ${i % 8} ${60 + (i * 31) % 600}\\nclock ${(i + 1) * 5000000}\\n`).join('');
+        window.long = `tc qdisc replace dev eth0 root taprio num_tc 8 map 0 1 2 3 4 5 6 7 base-time 0 sched-entry S 0f 100000 sched-entry S f0 100000\\n${frames}`""")
+    page.browser.trace()
+    page.do("""const data = new DataTransfer(); data.items.add(new File([window.long], 'long.script'));
+        document.body.dispatchEvent(new DragEvent('drop', { dataTransfer: data, bubbles: true, cancelable: true }))""")
+    wait_for(page.browser, "return document.getElementById('frames-name').textContent === 'Frames (400,000)'")
+    page.settle()
+    longest = page.browser.longest()
+    page.same(f"{longest:.0f} ms, a file of 400,000 frames", longest <= LONGEST, True)
+    page.same("all are there", page.text("verdict")[:32], "399992 of 400,000 frames sent, 8")
+    point = "const r = at('frame').getBoundingClientRect(); at('frame').dispatchEvent(new PointerEvent('pointermove', { clientX: r.right - 60, clientY: r.top + 50, bubbles: true }))"
+    for what, script in (("a zoom", "document.querySelector('[data-step=nearer]').click()"), ("a look at the last frames", point)):
+        page.browser.trace()
+        page.do(script)
+        time.sleep(0.3)
+        page.settle()
+        longest = page.browser.longest()
+        page.same(f"{longest:.0f} ms, {what}", longest <= LONGEST, True)
+    page.forget()
+
+
 NAMELESS = """return [...document.querySelectorAll('input, select, textarea, button, [tabindex]')]
     .filter((it) => !(it.labels?.length || it.textContent.trim() || it.getAttribute('aria-label'))).map((it) => it.id)"""
 REACHED = """const all = [...document.querySelectorAll('a[href], input, select, textarea, button, [tabindex]')];
@@ -2280,7 +2309,7 @@ def try_looks(page):
 
 
 TRIES = [try_weight, try_examples, try_replay, try_typing, try_options, try_worked, try_faults, try_refused, try_zoom, try_keys, try_micros, try_moments, try_frames, try_reasons, try_why, try_drops, try_tips, try_marks, try_pictures, try_rows, try_shades, try_whole, try_bounds, try_paths, try_timing, try_sharing, try_linux, try_compare, try_gates, try_imports, try_pcapng, try_changed, try_ink,
-         try_story, try_tabs, try_kept, try_long, try_files, try_forgotten, try_dates, try_stale, try_live, try_link, try_stop, try_access, try_screens, try_sizes, try_looks]
+         try_story, try_tabs, try_kept, try_long, try_files, try_forgotten, try_dates, try_stale, try_live, try_link, try_stop, try_blocks, try_access, try_screens, try_sizes, try_looks]
 
 
 def try_page(kind, address, server, tries=TRIES):
