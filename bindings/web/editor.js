@@ -218,8 +218,11 @@ export class Editor {
 
   // Puts the letters of the lines in sight where those of the textarea are.
   #drawInk(first, last, top, height) {
-    const { offsetLeft, clientLeft, clientWidth, clientHeight, scrollLeft } = this.area;
-    Object.assign(this.ink.style, { left: `${offsetLeft + clientLeft}px`, width: `${clientWidth}px`, height: `${clientHeight}px` });
+    const { clientLeft, clientWidth, clientHeight, scrollLeft } = this.area;
+    // (what stands before it is no whole number of pixels wide)
+    const box = this.ink.parentElement;
+    const before = this.area.getBoundingClientRect().left - box.getBoundingClientRect().left - box.clientLeft;
+    Object.assign(this.ink.style, { left: `${before + clientLeft}px`, width: `${clientWidth}px`, height: `${clientHeight}px` });
     this.letters.style.transform = `translate(${-scrollLeft}px, ${first * height - top}px)`;
     if (this.#inked === `${first} ${last}`) return;
     this.#inked = `${first} ${last}`;

@@ -1673,7 +1673,8 @@ def try_pcapng(page):
         before = page.do(KEPT_CAPTURE)
         if number % 4 == 1:
             page.do(f"""const data = new DataTransfer(); data.items.add(new File([Uint8Array.from({list(octets)})], 'my.pcapng'));
-                at('text').dispatchEvent(new ClipboardEvent('paste', {{ clipboardData: data, bubbles: true, cancelable: true }}))""")
+                const event = new Event('paste', {{ bubbles: true, cancelable: true }}); Object.defineProperty(event, 'clipboardData', {{ value: data }});
+                at('text').dispatchEvent(event)""")
             time.sleep(0.3)
             page.settle()
         else:
@@ -1800,8 +1801,15 @@ def try_ink(page):
     page.do("at('text').scrollTop = 4000")
     time.sleep(0.2)
     page.same("scrolled", page.do("const number = document.querySelector('#editor .numbers').textContent.split('\\n')[0]; return document.querySelector('#editor .letters div').textContent === `frame ${number - 1} 0 60`"), True)
+    page.set("text", f"frame 1 0 60\n# {200 * 'long '}\n")
+    page.do("at('text').scrollLeft = 133")
+    time.sleep(0.2)
+    beside = page.do("const [one, other] = [at('text'), document.querySelector('#editor .letters')].map((it) => it.getBoundingClientRect()); return [other.left - one.left + 133 - at('text').clientLeft, other.top - one.top]")
+    page.same(f"the letters lie where those of the text area do, but for {beside} pixels", [abs(it) < 0.1 for it in beside], [True, True])
     page.set("text", "frame 1 0 60\n")
     wait_for(page.browser, FRESH, 3)
+    page.do("at('text').focus(); at('text').select()")
+    page.browser.shoot(SHOTS / f"{page.browser.name}-selected.png")
     for job, example, lines in (("script", "first.script", WRONG_COMMANDS + WRONG_LINES), ("streams", "planned.streams", WRONG_STREAMS)):
         page.choose(example)
         for line in lines:
