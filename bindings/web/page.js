@@ -485,7 +485,7 @@ function showRefused(name, text, answers) {
     return item;
   });
   notTaken = refused.map(({ line: number, answer }) => ({ line: number, said: answer }));
-  editor.underline(notTaken);
+  underlineText();
   at("refused-list").replaceChildren(...items);
   at("refused").hidden = items.length === 0;
 }
@@ -548,7 +548,7 @@ function showFrames() {
 
 // Says how many numbers are others than before the last change, where what is shown is compared with that.
 function sayChanged(changed) {
-  at("changed").textContent = !ran.since ? "" : changed ? `Marked: ${count(changed, "value")} that the last change altered.` : "The last change altered none of these numbers.";
+  at("changed").textContent = !ran.since || !ran.isWhole ? "" : changed ? `Marked: ${count(changed, "value")} that the last change altered.` : "The last change altered none of these numbers.";
 }
 
 // Marks the lines of the answers that were not there before the last change.
@@ -583,12 +583,16 @@ async function saveFrames() {
   setTimeout(() => URL.revokeObjectURL(link.href), 60_000);
 }
 
+// Underlines what was not taken of the text, if that is what was run, and a fault of it.
+function underlineText(...faults) {
+  editor.underline([...(ran?.text === editor.text ? notTaken : []), ...faults]);
+}
+
 function clearFault() {
   at("fault").hidden = true;
-  for (const part of [editor, beside]) {
-    part.markLine(null);
-    part.underline(part === editor && ran?.text === editor.text ? notTaken : []);
-  }
+  for (const part of [editor, beside]) part.markLine(null);
+  underlineText();
+  beside.underline([]);
   for (const input of document.querySelectorAll(".options [aria-invalid], #zoom [aria-invalid]")) input.removeAttribute("aria-invalid");
 }
 
@@ -605,9 +609,9 @@ function showFault(text, input = null) {
   const folded = field?.closest("details");
   if (folded) folded.open = true;
   if (number !== null) {
-    const part = editorOf(source);
-    part.markLine(number);
-    part.underline([...(part === editor && ran?.text === editor.text ? notTaken : []), { line: number, said }]);
+    editorOf(source).markLine(number);
+    if (editorOf(source) === editor) underlineText({ line: number, said });
+    else beside.underline([{ line: number, said }]);
   }
   at("go").hidden = number === null && !field;
   at("fault").classList.remove("stale");
@@ -713,9 +717,9 @@ async function snapshot() {
   const [name, text] = [job(), editor.text];
   const second = name === "replay" ? capture : encoded(hasBeside(name) ? beside.text : "");
   const values = await valuesFor(name, readMoments);
-  if (name === "replay" && !second.length) throw new BadOption("capture", "No capture is chosen: choose a classic pcap file, or drop one on the page.");
+  if (name === "replay" && !second.length) throw new BadOption("capture", "No capture is chosen: choose a pcap or pcapng file, or drop one on the page.");
   const { rate, mtu, room } = values;
-  return { job: name, text, beside: second, besideText: beside.text, otherText: COMPARED.includes(name) ? other.text.trimEnd() : "", other: null, values, port: { rate, mtu, room }, until: null, frames: [], wire: [], times: timesOf([]), classes: [], changes: [], history: null, kinds: null, first: 0n, last: 0n, windows: [], bounds: [], paths: null, schedules: [], source: null, why: "", drawn: null, window: null, waits: null, since: null };
+  return { job: name, text, beside: second, besideText: beside.text, otherText: COMPARED.includes(name) ? other.text.trimEnd() : "", other: null, values, port: { rate, mtu, room }, until: null, frames: [], wire: [], times: timesOf([]), classes: [], changes: [], history: null, kinds: null, first: 0n, last: 0n, windows: [], bounds: [], paths: null, schedules: [], source: null, why: "", drawn: null, window: null, waits: null, since: null, isWhole: false };
 }
 
 // What a run came to, as far as the next one is compared with it.
@@ -725,6 +729,8 @@ const gistOf = ({ job: name, values, classes, windows, bounds, paths, frames, an
 function sinceOf(before, next) {
   if (another || !before || before.job !== next.job || !isShort()) return null;
   if (beforeMove) return beforeMove;
+  // (a run with a fault tells no numbers)
+  if (!before.isWhole) return before.since;
   return isSame(before, next) && before.otherText === next.otherText ? before.since : gistOf(before);
 }
 
@@ -846,6 +852,7 @@ async function work(mine, typed) {
   // (of a long script the picture is drawn first, and its frames are found then)
   const late = ran.job === "script" && told.status === 0 && answers.length > LONG;
   ran.since = late ? null : sinceOf(before, next);
+  ran.isWhole = told.status === 0;
   another = false;
   if (late) ran.source = ran.text;
   else if (told.status === 0) {
@@ -1200,7 +1207,7 @@ function openGates() {
 function noteGates(source) {
   const part = gateEditors()[source];
   const typed = part.fresh ? null : part.put;
-  beforeMove = ran && gistOf(ran);
+  beforeMove = ran?.isWhole ? gistOf(ran) : null;
   notePast();
   if (typed !== null) past.splice(-1, 0, { ...past.at(-1), [["text", "beside", "other"][editors.indexOf(part)]]: typed });
 }

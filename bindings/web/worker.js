@@ -30,12 +30,12 @@ async function answer({ octets, request }) {
   if (!request) return { ready: true };
   const begun = performance.now();
   const own = OWN[request.job];
-  const told = own ? own(request) : done(request);
+  const told = own ? own(request) : ofProgram(request);
   return { told: { ...told, time: performance.now() - begun } };
 }
 
 // Does a job of the program, and counts the lines of its output.
-function done(request) {
+function ofProgram(request) {
   const told = run(module, { ...request, input: inputOf(request) });
   let lines = 0;
   for (let at = told.output.indexOf(10); at >= 0; at = told.output.indexOf(10, at + 1)) lines += 1;
