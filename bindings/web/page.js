@@ -10,8 +10,8 @@ import { Viewer } from "./viewer.js";
 import { Table } from "./tables.js";
 import { GREATEST, writeMoment } from "./moments.js";
 import { linuxSaid } from "./linux.js";
-import { linesOf, readScript } from "./script.js";
-import { runVerdict } from "./frames.js";
+import { readScript } from "./script.js";
+import { runVerdict, sortedOf } from "./frames.js";
 import { runOf, whySaid } from "./why.js";
 import { timesOf } from "./shades.js";
 import { boundsIn, boundsVerdict, countedFrom, drawBounds, latestOf } from "./bounds.js";
@@ -23,7 +23,7 @@ import { Inputs } from "./inputs.js";
 import { Strip } from "./strip.js";
 import { BadSchedule } from "./documents.js";
 import { formOf, importedFrom, nameOfForm } from "./imports.js";
-import { hasStreams, isNetwork, jobOf, kindOf, recordsOf, scriptOfReplay } from "./captures.js";
+import { hasStreams, isNetwork, jobOf, kindOf } from "./captures.js";
 import { STEPS } from "./gallery.js";
 import { INSTEAD, lacking } from "./support.js";
 
@@ -766,7 +766,9 @@ async function takeSchedule(mine) {
 
 // The script that a table of streams became is run, too: it is what its picture shows.
 async function takeScript(mine, run, script) {
-  const until = readScript(script).last + GOES_ON;
+  const read = await ask(mine, { job: "lastOf", text: script });
+  if (!read) return;
+  const until = read.last + GOES_ON;
   const values = { ...run.values, until: until < GREATEST ? until : GREATEST };
   const told = await ask(mine, { job: "script", text: script, beside: new Uint8Array(), values });
   if (!told) return;
@@ -780,10 +782,12 @@ async function takeScript(mine, run, script) {
 
 // A replay is drawn as the script that it comes to. Where no end is given it goes on until no frame can start, which is at the last end.
 async function takeReplay(mine, run, answers) {
-  const script = scriptOfReplay(linesOf(run.text), recordsOf(run.beside));
-  const ends = [...answers.matchAll(/^start .* end (\d+)/gm)].map(([, end]) => BigInt(end));
-  const last = ends.reduce((most, it) => (it > most ? it : most), readScript(script).last);
-  await takeRun(mine, run, script, run.values.until ?? last, answers);
+  const told = await ask(mine, { job: "replayed", text: run.text, beside: run.beside });
+  if (!told) return;
+  // (frames start one after another: the last one that starts is the last one that ends)
+  const [, end] = /^start .* end (\d+)/.exec(answers.slice(answers.lastIndexOf("\nstart ") + 1)) ?? [];
+  const last = end !== undefined && BigInt(end) > told.last ? BigInt(end) : told.last;
+  await takeRun(mine, run, told.script, run.values.until ?? last, answers);
 }
 
 // What the answers of a run come to: `told` are those to its schedule commands.
@@ -869,15 +873,15 @@ async function work(mine, typed) {
   if (late && mine === turn) await takeLate(mine, answers, typed ? before : null);
 }
 
-// Does steps one after another; where the answers are long with a pause between them, so that a key waits for one of them alone. False where another
-// run has begun since.
+// Does steps one after another; where the answers are long with a pause before each, so that a key waits for one of them alone. False where another run
+// has begun since.
 async function inSteps(mine, ...steps) {
   for (const step of steps) {
+    if (mine === turn && ran.answers.length > LONG) await new Promise((resolve) => setTimeout(resolve));
     if (mine !== turn) return false;
     step();
-    if (ran.answers.length > LONG) await new Promise((resolve) => setTimeout(resolve));
   }
-  return mine === turn;
+  return true;
 }
 
 // Shows what a run came to, but for its picture.
@@ -901,6 +905,7 @@ function showRun(mine, told, answers, late) {
       clearVerdict(late ? LOOKING : "");
       if (!late && told.status === 0) sayVerdict(answers);
     },
+    () => sortedOf(ran.frames), // (the picture looks them up there)
   );
 }
 
@@ -908,9 +913,9 @@ function showRun(mine, told, answers, late) {
 async function takeLate(mine, answers, before) {
   await takeOwn(mine, answers);
   if (mine === turn) await takeOther(mine, before);
-  if (!(await inSteps(mine, () => fillOrigins(ran), () => showTables(), () => sayVerdict(answers)))) return;
+  if (!(await inSteps(mine, () => fillOrigins(ran), () => showTables(), () => sayVerdict(answers), () => sortedOf(ran.frames)))) return;
   if (ran.window || ran.other) await draw(mine);
-  else if (ran.drawn) layPicture();
+  else if (ran.drawn) await inSteps(mine, layPicture);
 }
 
 // What was typed has a fault: what is shown is still of an earlier text, and is marked as such.

@@ -2206,11 +2206,17 @@ def try_stop(page):
     page.same("drawn after a stop", page.text("status")[:4], "Done")
 
 
+# Drops a capture of 300,000 records.
+LONG_CAPTURE = """const count = 300000; const octets = new Uint8Array(24 + count * 80); const view = new DataView(octets.buffer);
+    [0xa1b23c4d, 0x00040002, 0, 0, 65535, 1].forEach((it, place) => view.setUint32(4 * place, it, true));
+    for (let i = 0; i < count; i += 1) [Math.floor(i / 200000), (i * 5000) % 1e9, 64, 64].forEach((it, place) => view.setUint32(24 + 80 * i + 4 * place, it, true));
+    const data = new DataTransfer(); data.items.add(new File([octets], 'long.pcap'));
+    document.body.dispatchEvent(new DragEvent('drop', { dataTransfer: data, bubbles: true, cancelable: true }))"""
 LONGEST = 200  # milliseconds of a task of the page: no key is heard meanwhile
 
 
 def try_blocks(page):
-    """A file of 400,000 frames is taken, drawn, zoomed and pointed at without a long task: by the time of the processor, which Chromium tells."""
+    """A file of 400,000 frames, a long capture and a long table are taken and drawn without a long task: by the time of the processor, which Chromium tells."""
     if not isinstance(page.browser, Chromium):
         return
     page.choose("first.script")
@@ -2229,6 +2235,17 @@ def try_blocks(page):
         page.browser.trace()
         page.do(script)
         time.sleep(0.3)
+        page.settle()
+        longest = page.browser.longest()
+        page.same(f"{longest:.0f} ms, {what}", longest <= LONGEST, True)
+    for what, example, begin in (
+        ("a capture of 300,000 records", "machine.pcap", LONG_CAPTURE),
+        ("a table of 300,000 frames", "planned.streams", "at('text').value = 'stream 1 7 60 5us 0us 300000\\n'; at('text').dispatchEvent(new Event('input', { bubbles: true })); at('run').click()"),
+    ):
+        page.choose(example)
+        page.browser.trace()
+        page.do(begin)
+        wait_for(page.browser, "return document.getElementById('frames-name').textContent === 'Frames (300,000)'")
         page.settle()
         longest = page.browser.longest()
         page.same(f"{longest:.0f} ms, {what}", longest <= LONGEST, True)

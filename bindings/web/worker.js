@@ -1,6 +1,7 @@
 // The worker: does one job after the other, away from the page.
 import { readMoments, run } from "./taprio.js";
-import { changesOf, kindsOf, readScript } from "./script.js";
+import { recordsOf, scriptOfReplay } from "./captures.js";
+import { changesOf, kindsOf, linesOf, readScript } from "./script.js";
 import { byClass, droppedIn, framesOf } from "./frames.js";
 import { historyOf, sentByStart } from "./why.js";
 import { timesOf } from "./shades.js";
@@ -49,9 +50,8 @@ function answersTo(job, values) {
 }
 
 // What a script, which was given before, and its answers come to, frame by frame and by class; `order` are the places of those that were sent, by their starts.
-function fatesIn({ text, answers, values }) {
-  inputOf({ text });
-  const script = latest.text;
+function fatesIn({ answers, values, ...request }) {
+  const script = textOf(request);
   const { arrivals, commands, first, last } = readScript(script);
   const dropped = /^dropped /m.test(answers) ? droppedIn(answersTo("frames", values)) : [];
   const classes = byClass(answersTo("script", { ...values, summary: true }));
@@ -61,8 +61,23 @@ function fatesIn({ text, answers, values }) {
   return { frames, order: Uint32Array.from(wire, (it) => places.get(it)), times: timesOf(wire), classes, changes: changesOf(commands, answers), kinds: kindsOf(commands, answers), history: historyOf(commands, answers, values), first, last };
 }
 
+// The text that is given now, or was given last.
+const textOf = (request) => (inputOf(request), latest.text);
+
+// The script that a replay of a capture comes to, and the moment of its last line.
+function replayedIn(request) {
+  const script = scriptOfReplay(linesOf(textOf(request)), recordsOf(request.beside));
+  return { script, last: readScript(script).last };
+}
+
 // What is done beside the program's jobs.
-const OWN = { fates: fatesIn, moments: ({ words }) => ({ moments: readMoments(module, words) }), classic: ({ octets }) => classicOf(octets) };
+const OWN = {
+  fates: fatesIn,
+  lastOf: (request) => ({ last: readScript(textOf(request)).last }),
+  replayed: replayedIn,
+  moments: ({ words }) => ({ moments: readMoments(module, words) }),
+  classic: ({ octets }) => classicOf(octets),
+};
 
 const LOT = 20_000; // frames that are told at once
 
