@@ -45,6 +45,7 @@ const GOES_ON = 1_000_000_000n; // how long a table's script, and a replay, goes
 const REASONS_TOLD = 8; // reasons why a frame waits that are told below the picture
 const REASONS_IN_TIP = 3; // and in the tip
 const LONG = 500_000; // characters of answers after which the picture comes before the frames
+const MOST_NEW = 500; // lines of the answers that are marked since they are new: a browser takes long to paint very many
 const MOST_LINK = 8_000; // characters of a link that most places take
 
 const at = (id) => document.getElementById(id);
@@ -551,7 +552,7 @@ function sayChanged(changed) {
   at("changed").textContent = !ran.since || !ran.isWhole ? "" : changed ? `Marked: ${count(changed, "value")} that the last change altered.` : "The last change altered none of these numbers.";
 }
 
-// Marks the lines of the answers that were not there before the last change.
+// Marks the lines of the answers that were not there before the last change, unless they are very many.
 function markNewLines() {
   if (!CSS.highlights) return; // (the tables are marked all the same)
   CSS.highlights.delete("changed");
@@ -564,7 +565,7 @@ function markNewLines() {
     if (!earlier.has(line)) ranges.push(new StaticRange({ startContainer: text, startOffset: begin, endContainer: text, endOffset: begin + line.length }));
     begin += line.length + 1;
   }
-  CSS.highlights.set("changed", new Highlight(...ranges));
+  if (ranges.length <= MOST_NEW) CSS.highlights.set("changed", new Highlight(...ranges));
 }
 
 // Saves the port's own table of the frames of the script that was run; of a table of streams with the stream of each frame.
