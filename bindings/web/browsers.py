@@ -67,8 +67,25 @@ class Chromium:
         kind, values = said.get("method"), said.get("params", {})
         if kind == "Runtime.exceptionThrown":
             self.logged.append(json.dumps(values["exceptionDetails"])[:400])
+        elif kind == "Tracing.dataCollected":
+            self.traced += values["value"]
+        elif kind == "Tracing.tracingComplete":
+            self.traces = False
         elif kind == "Log.entryAdded" and values["entry"]["level"] in ("error", "warning"):
             self.logged.append(values["entry"]["text"])
+
+    def trace(self):
+        """Notes from now on what the page's threads do."""
+        self.traced, self.traces = [], True
+        self.call("Tracing.start", categories="toplevel", transferMode="ReportEvents")
+
+    def longest(self):
+        """The milliseconds of the processor that the longest task of the page took since `trace`: while it goes on no key is heard."""
+        self.call("Tracing.end")
+        while self.traces:
+            self.evaluate("return 1")
+        main = [(it["pid"], it["tid"]) for it in self.traced if it["name"] == "thread_name" and it["args"]["name"] == "CrRendererMain"]
+        return max(it.get("tdur", 0) / 1000 for it in self.traced if it["ph"] == "X" and (it["pid"], it["tid"]) in main)
 
     def evaluate(self, script):
         told = self.call("Runtime.evaluate", expression=f"(() => {{ {script} }})()", returnByValue=True, awaitPromise=True)

@@ -1,11 +1,12 @@
 #!/usr/bin/env python3
-"""Makes the page of web/ one file: bundle.py WASM EXAMPLES OUT."""
+"""Makes the page of web/ one file: bundle.py WASM EXAMPLES OUT. WASM is the module, or a page that has it."""
 import base64
 import hashlib
 import json
 import pathlib
 import re
 import sys
+import zlib
 
 import sources
 
@@ -30,7 +31,7 @@ def modules(name, seen):
 
 def refuse_doubles(name, text):
     """Stops where two modules of a bundle give one name to two things."""
-    names = re.findall(r"^(?:async )?(?:const|let|function|class) (\w+)", text, re.M)
+    names = re.findall(r"^(?:async )?(?:const|let|function\*?|class) (\w+)", text, re.M)
     doubles = sorted({it for it in names if names.count(it) > 1})
     if doubles:
         sys.exit(f"bundle.py: {name} has {', '.join(doubles)} twice")
@@ -96,6 +97,22 @@ def data(value):
     return json.dumps(value, ensure_ascii=False).replace("<", "\\u003c")
 
 
+def packed(octets):
+    """Octets as deflate-raw in base64: the page's worker unpacks them."""
+    made = zlib.compressobj(9, wbits=-zlib.MAX_WBITS)
+    return base64.b64encode(made.compress(octets) + made.flush()).decode()
+
+
+def unpacked(text):
+    """The octets that `packed` made this text of."""
+    return zlib.decompress(base64.b64decode(text), wbits=-zlib.MAX_WBITS)
+
+
+def module_in(page):
+    """The module that stands in a page's text."""
+    return unpacked(re.search(r'id="page-wasm">([^<]+)<', page)[1])
+
+
 def digest(text):
     return "'sha256-" + base64.b64encode(hashlib.sha256(text.encode()).digest()).decode() + "'"
 
@@ -115,16 +132,20 @@ def policy(style, script):
 
 
 def main(wasm, folder, out):
+    """Makes the page of a module. Where the module is a page, it is that page's, and so are the sums of the crates that it was made of."""
+    given = pathlib.Path(wasm)
+    earlier = given.read_text(encoding="utf-8") if given.suffix == ".html" else None
+    module = given.read_bytes() if earlier is None else module_in(earlier)
     style = (WEB / "page.css").read_text(encoding="utf-8")
     script = bundle("page.js")
     parts = {
         "POLICY": policy(style, script),
-        "SOURCES": sources.told(),
+        "SOURCES": sources.told(earlier),
         "STYLE": style,
         "TRUST": (WEB / "trust.html").read_text(encoding="utf-8"),
         "EXAMPLES": data(examples(pathlib.Path(folder))),
         "WORKER": bundle("worker.js"),
-        "WASM": base64.b64encode(pathlib.Path(wasm).read_bytes()).decode(),
+        "WASM": packed(module),
         "SCRIPT": script,
     }
     page = (WEB / "page.html").read_text(encoding="utf-8")

@@ -5,15 +5,15 @@ const MAGICS = { a1b2c3d4: { little: false, nano: false }, d4c3b2a1: { little: t
 const hex = (octets) => [...octets.subarray(0, 4)].map((it) => it.toString(16).padStart(2, "0")).join("");
 
 /**
- * What the octets of a file are: `capture`, `text`, or why they are neither.
+ * What the octets of a file are: `capture`, `pcapng`, `text`, or why they are none of these.
  *
  * @param {Uint8Array} octets
- * @returns {{kind: "capture" | "text"} | {kind: "other", why: string}}
+ * @returns {{kind: "capture" | "pcapng" | "text"} | {kind: "other", why: string}}
  */
 export function kindOf(octets) {
   const magic = hex(octets);
   if (MAGICS[magic]) return { kind: "capture" };
-  if (magic === "0a0d0d0a") return { kind: "other", why: "this is a pcapng file. Make a classic one of it: editcap -F nsecpcap IN OUT" };
+  if (magic === "0a0d0d0a") return { kind: "pcapng" };
   if (magic.startsWith("1f8b")) return { kind: "other", why: "this is a gzip file. Unpack it first: gunzip FILE" };
   if (octets.subarray(0, 4096).includes(0)) return { kind: "other", why: "this is neither text nor a classic pcap file." };
   return { kind: "text" };

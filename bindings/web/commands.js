@@ -2,6 +2,15 @@
 
 const LISTED = 20; // how many are told of
 
+// Where a word stands at the beginning of a line of a text, or behind blanks there. (Texts are long, and such words are rare.)
+function* beginningsOf(text, word, blanks = "") {
+  for (let at = text.indexOf(word); at >= 0; at = text.indexOf(word, at + word.length)) {
+    let begin = at;
+    while (begin > 0 && blanks.includes(text[begin - 1])) begin -= 1;
+    if (begin === 0 || text[begin - 1] === "\n") yield { begin, end: at + word.length };
+  }
+}
+
 /**
  * The numbers of the physical lines at which schedule commands begin.
  *
@@ -9,12 +18,25 @@ const LISTED = 20; // how many are told of
  */
 export function commandLines(text) {
   const found = [];
-  let begin = true;
-  text.split("\n").forEach((line, place) => {
-    if (begin && /^[ \t\r]*tc(?:[ \t\r]|\\\r?$|$)/.test(line)) found.push(place + 1);
-    begin = !/\\\r?$/.test(line);
-  });
+  let [number, counted] = [1, 0];
+  for (const { begin, end } of beginningsOf(text, "tc", " \t\r")) {
+    const isWord = /^(?:[ \t\r\n]|\\\r?(?:\n|$)|$)/.test(text.slice(end, end + 3));
+    if (!isWord || /\\\r?\n$/.test(text.slice(Math.max(0, begin - 3), begin))) continue;
+    for (let at = text.indexOf("\n", counted); at >= 0 && at < begin; at = text.indexOf("\n", at + 1)) [number, counted] = [number + 1, at + 1];
+    found.push(number);
+  }
   return found;
+}
+
+const TOLD = ["installed", "refused", "tc-fault", "apart"];
+
+// What was answered to the schedule commands, in their order.
+function toldOf(answers) {
+  const places = TOLD.flatMap((word) => [...beginningsOf(answers, word)]).sort((one, other) => one.begin - other.begin);
+  return places.map(({ begin }) => {
+    const end = answers.indexOf("\n", begin);
+    return answers.slice(begin, end < 0 ? undefined : end);
+  });
 }
 
 /**
@@ -27,7 +49,6 @@ export function commandLines(text) {
  */
 export function refusedCommands(text, answers) {
   const lines = commandLines(text);
-  const told = answers.match(/^(?:installed|refused|tc-fault|apart)\b.*$/gm) ?? [];
-  const all = told.map((answer, place) => ({ line: lines[place], answer }));
+  const all = toldOf(answers).map((answer, place) => ({ line: lines[place], answer }));
   return all.filter(({ line, answer }) => line && !/^(?:installed|apart)/.test(answer)).slice(0, LISTED);
 }

@@ -1,11 +1,14 @@
-// A text with the numbers of its lines, one of which can be marked.
+// A text with the numbers of its lines, one of which can be marked, with the colours of its words, and with what is underlined.
+import { coloursIn, segmentsOf } from "./ink.js";
+import { marksIn } from "./marks.js";
 
 const MOST = 300_000; // characters of a text that a browser lays out at once
 const AT_ONCE = 400; // lines that are shown of a longer one
 const LONG_PASTE = 5_000; // characters of a text that is pasted by the page: a browser takes seconds and more for a long one
 
 /**
- * An editor over a textarea that stands in a `.editor` with a `.numbers` and a `.mark`, with a `.held` behind it. Of a text that is too long to be
+ * An editor over a textarea that stands in a `.editor` with a `.numbers`, a `.mark` and a `.ink`, with a `.held` behind it. The textarea's own letters
+ * are not seen: those of the lines in sight are in `.ink`, under it, where they have colours. Of a text that is too long to be
  * laid out some lines are shown, which can't be edited: all of it can be copied, cleared, and replaced by what is typed or pasted.
  *
  * Before the page itself puts in what is pasted or clears the text, the textarea has the event `replace`, which says whether the whole text goes,
@@ -17,6 +20,9 @@ export class Editor {
   #base = 0; // how many lines stand before those that are shown
   #count = 0; // how many are shown
   #put = ""; // what was put into the textarea last
+  #starts = [0]; // where the lines that are shown begin
+  #odd = []; // where the text is underlined
+  #inked = ""; // which lines are in `.ink`
 
   /**
    * @param {HTMLElement} box
@@ -27,6 +33,8 @@ export class Editor {
     this.area = box.querySelector("textarea");
     this.numbers = box.querySelector(".numbers");
     this.mark = box.querySelector(".mark");
+    this.ink = box.querySelector(".ink");
+    this.letters = this.ink.querySelector(".letters");
     this.note = box.parentElement.querySelector(".held");
     this.noteText = this.note.querySelector("span");
     this.line = null;
@@ -101,6 +109,15 @@ export class Editor {
   markLine(line) {
     this.line = line;
     this.area.setAttribute("aria-invalid", String(line !== null));
+    this.#place();
+  }
+
+  /** Underlines what faults are about, each of a line of the text: see `marksIn`. */
+  underline(faults) {
+    const marks = marksIn(this.text, faults);
+    const before = this.#held ? this.#held.slice(0, this.#base).reduce((sum, it) => sum + it.length + 1, 0) : 0;
+    this.#odd = marks.map(({ begin, end }) => ({ begin: begin - before, end: end - before }));
+    this.#inked = "";
     this.#place();
   }
 
@@ -192,19 +209,54 @@ export class Editor {
 
   #changed(line = null) {
     const text = this.area.value;
-    let lines = 1;
-    for (let at = text.indexOf("\n"); at >= 0; at = text.indexOf("\n", at + 1)) lines += 1;
-    this.#count = lines;
+    this.#starts = [0];
+    for (let at = text.indexOf("\n"); at >= 0; at = text.indexOf("\n", at + 1)) this.#starts.push(at + 1);
+    this.#count = this.#starts.length;
+    [this.#odd, this.#inked] = [[], ""];
     this.markLine(line);
   }
 
-  // Puts the numbers of the lines in sight, and the mark, beside the lines.
+  // Puts the letters of the lines in sight where those of the textarea are.
+  #drawInk(first, last, top, height) {
+    const { clientLeft, clientWidth, clientHeight, scrollLeft } = this.area;
+    // (what stands before it is no whole number of pixels wide)
+    const box = this.ink.parentElement;
+    const before = this.area.getBoundingClientRect().left - box.getBoundingClientRect().left - box.clientLeft;
+    Object.assign(this.ink.style, { left: `${before + clientLeft}px`, width: `${clientWidth}px`, height: `${clientHeight}px` });
+    this.letters.style.transform = `translate(${-scrollLeft}px, ${first * height - top}px)`;
+    if (this.#inked === `${first} ${last}`) return;
+    this.#inked = `${first} ${last}`;
+    const text = this.area.value;
+    const lineAt = (number) => text.slice(this.#starts[number], (this.#starts[number + 1] ?? text.length + 1) - 1);
+    const colours = coloursIn(lineAt, first, last);
+    this.letters.replaceChildren(...colours.map((words, place) => this.#lineOf(first + place, lineAt(first + place), words)));
+  }
+
+  // A line with its colours, and with what is underlined of it.
+  #lineOf(number, text, words) {
+    const [line, start] = [document.createElement("div"), this.#starts[number]];
+    const odd = this.#odd.filter(({ begin, end }) => begin <= start + text.length && end > start).map(({ begin, end }) => ({ from: Math.max(0, begin - start), to: Math.min(end - start, Math.max(text.length, begin - start + 1)) }));
+    for (const { text: part, colour, isOdd } of segmentsOf(text, words, odd)) {
+      if (!colour && !isOdd) {
+        line.append(part);
+        continue;
+      }
+      const span = document.createElement("span");
+      span.className = `${colour}${isOdd ? " odd" : ""}`.trim();
+      span.textContent = part;
+      line.append(span);
+    }
+    return line;
+  }
+
+  // Puts the numbers of the lines in sight, their letters, and the mark, where the lines are.
   #place() {
     const [top, height] = [this.area.scrollTop, this.#height()];
     const first = Math.max(0, Math.floor(top / height) - 1);
     const last = Math.min(this.#count, first + Math.ceil(this.area.clientHeight / height) + 3);
     this.numbers.textContent = Array.from({ length: Math.max(0, last - first) }, (_, place) => this.#base + first + place + 1).join("\n");
     this.numbers.style.transform = `translateY(${first * height - top}px)`;
+    this.#drawInk(first, last, top, height);
     const place = this.line === null ? -1 : this.line - 1 - this.#base;
     this.mark.hidden = place < 0 || place >= this.#count;
     if (!this.mark.hidden) this.mark.style.transform = `translateY(${place * height - top}px)`;

@@ -47,7 +47,8 @@ const WANTED = {
  * The place and the meaning of a fault.
  *
  * @param {string} text as the program says it
- * @returns {{text: string, line: number | null, source: "script" | "table" | "network" | "schedules" | null}}
+ * @returns {{text: string, line: number | null, source: "script" | "table" | "network" | "schedules" | null, said?: string}} `said` is its name, and what
+ *   stands behind that
  */
 export function explain(text) {
   const said = text.trim().replace(/^taprio_port: /, "");
@@ -60,5 +61,5 @@ export function explain(text) {
   if (!found) return { text: said, line: null, source: null };
   const [, source, line, name, more] = found;
   const meaning = MEANINGS[name];
-  return { text: `Line ${line}: ${name}${more}${meaning ? `, ${meaning}` : ""}`, line: Number(line), source };
+  return { text: `Line ${line}: ${name}${more}${meaning ? `, ${meaning}` : ""}`, line: Number(line), source, said: name + more };
 }

@@ -51,6 +51,30 @@ export function framesOf(arrivals, answers, dropped) {
   return found;
 }
 
+const looked = new WeakMap(); // what was found out of frames that were looked through
+
+/**
+ * Frames by what became of them, in the order in which they came.
+ *
+ * @param {ReturnType<typeof framesOf>} frames
+ * @returns {{queues: object[][], left: object[], dropped: object[], kinds: number[]}} `queues` are by class those that were sent or are left, of which the
+ *   first that came starts first, and `kinds` the classes that frames are of
+ */
+export function sortedOf(frames) {
+  if (looked.has(frames)) return looked.get(frames);
+  const found = { queues: Array.from({ length: 8 }, () => []), left: [], dropped: [], kinds: [] };
+  const used = [];
+  for (const it of frames) {
+    if (it.class !== null) used[it.class] = true;
+    if (it.start !== null || it.fate === "left") found.queues[it.class].push(it);
+    else found.dropped.push(it);
+    if (it.fate === "left") found.left.push(it);
+  }
+  found.kinds = Object.keys(used).map(Number);
+  looked.set(frames, found);
+  return found;
+}
+
 const SUMMARY = /^summary class (\d) queued (\d+) sent (\d+) dropped (\d+) octets \d+ least (\d+|-) mean (\d+|-) greatest (\d+|-) most \d+$/gm;
 
 /**

@@ -4,8 +4,8 @@ const MOST_ENTRIES = 256; // of a gate list
 const LONGEST = 2 ** 32 - 1; // nanoseconds of an interval
 const GRID = 1000; // nanoseconds that an edge is moved by, unless it is moved finely
 
-// The logical lines of a text, each with its number and where it begins and ends: a backslash before the end of a line takes the next one into it.
-function* placesOfLines(text) {
+/** The logical lines of a text, each with its number and where it begins and ends: a backslash before the end of a line takes the next one into it. */
+export function* placesOfLines(text) {
   let [begin, number, first, at] = [0, 1, 1, 0];
   while (at <= text.length) {
     const found = text.indexOf("\n", at);
@@ -18,8 +18,8 @@ function* placesOfLines(text) {
   }
 }
 
-// The words of a logical line, each with where it stands in the text.
-function wordsAt(text, { begin, end }) {
+/** The words of a logical line, each with where it stands in the text. */
+export function wordsAt(text, { begin, end }) {
   const plain = text.slice(begin, end).replace(/\\\r?\n/g, (it) => " ".repeat(it.length));
   return [...plain.matchAll(/[^ \t\r\n]+/g)].map(([word], place, all) => ({ word, at: begin + all[place].index, end: begin + all[place].index + word.length }));
 }

@@ -10,8 +10,8 @@ import { Viewer } from "./viewer.js";
 import { Table } from "./tables.js";
 import { GREATEST, writeMoment } from "./moments.js";
 import { linuxSaid } from "./linux.js";
-import { linesOf, readScript } from "./script.js";
-import { runVerdict } from "./frames.js";
+import { readScript } from "./script.js";
+import { runVerdict, sortedOf } from "./frames.js";
 import { runOf, whySaid } from "./why.js";
 import { timesOf } from "./shades.js";
 import { boundsIn, boundsVerdict, countedFrom, drawBounds, latestOf } from "./bounds.js";
@@ -23,7 +23,7 @@ import { Inputs } from "./inputs.js";
 import { Strip } from "./strip.js";
 import { BadSchedule } from "./documents.js";
 import { formOf, importedFrom, nameOfForm } from "./imports.js";
-import { hasStreams, isNetwork, jobOf, kindOf, recordsOf, scriptOfReplay } from "./captures.js";
+import { hasStreams, isNetwork, jobOf, kindOf } from "./captures.js";
 import { STEPS } from "./gallery.js";
 import { INSTEAD, lacking } from "./support.js";
 
@@ -45,6 +45,7 @@ const GOES_ON = 1_000_000_000n; // how long a table's script, and a replay, goes
 const REASONS_TOLD = 8; // reasons why a frame waits that are told below the picture
 const REASONS_IN_TIP = 3; // and in the tip
 const LONG = 500_000; // characters of answers after which the picture comes before the frames
+const MOST_NEW = 500; // lines of the answers that are marked since they are new: a browser takes long to paint very many
 const MOST_LINK = 8_000; // characters of a link that most places take
 
 const at = (id) => document.getElementById(id);
@@ -80,6 +81,9 @@ let drawing = false; // whether a picture is drawn for itself
 let again = false; // whether it is to be drawn once more
 let moving = false; // whether what is moved by hand is run
 let moved = false; // and whether it was moved since
+let another = true; // whether what is run next is another input than that which is shown
+let beforeMove = null; // what the run before a move by hand came to
+let notTaken = []; // the commands of the last run that were not taken: their lines, and what was said of them
 
 const COMPARED = ["script", "bounds", "paths", "streams", "replay"]; // the jobs of which another schedule is run, too
 const JUDGED = ["bounds", "paths"]; // the jobs that judge streams for ever, under schedules that stand alone in the text
@@ -143,20 +147,21 @@ const DIFFERENCE_COLUMNS = [["of", "Of", "text"], ["what", "What", "text"], ["on
 const boundsTable = ({ slack, why }) => `bounds${slack ? " slack" : ""}${why ? " why" : ""}`;
 const columns = (list) => list.map(([name, title, kind]) => ({ name, title, kind }));
 const HOW = { time: writeTime, moment: writeAt, measure: writeTime, change: writeChange };
+const tableOf = (box, list, ...keys) => new Table(at(box), columns(list), { ...HOW, keys });
 const tables = {
-  script: new Table(at("classes"), columns(CLASS_COLUMNS), HOW),
-  replay: new Table(at("classes"), columns(CLASS_COLUMNS), HOW),
-  streams: new Table(at("classes"), columns(CLASS_COLUMNS), HOW),
-  check: new Table(at("classes"), columns(WINDOW_COLUMNS), HOW),
-  paths: new Table(at("classes"), columns(PATH_COLUMNS), HOW),
+  script: tableOf("classes", CLASS_COLUMNS, "class"),
+  replay: tableOf("classes", CLASS_COLUMNS, "class"),
+  streams: tableOf("classes", CLASS_COLUMNS, "class"),
+  check: tableOf("classes", WINDOW_COLUMNS, "schedule", "class"),
+  paths: tableOf("classes", PATH_COLUMNS, "id"),
 };
-const hopTable = new Table(at("hops"), columns(HOP_COLUMNS), HOW);
-const portTable = new Table(at("ports"), columns(PORT_COLUMNS), HOW);
+const hopTable = tableOf("hops", HOP_COLUMNS, "id", "port");
+const portTable = tableOf("ports", PORT_COLUMNS, "port", "class");
 // What is asked of bounds says which columns they have.
 for (const slack of [false, true])
-  for (const why of [false, true]) tables[boundsTable({ slack, why })] = new Table(at("classes"), columns(boundColumns({ slack, why })), HOW);
-const differenceTable = new Table(at("differences"), columns(DIFFERENCE_COLUMNS), HOW);
-const frameTable = new Table(at("frames-table"), columns(FRAME_COLUMNS), { ...HOW, choose: (frame) => chooseFrame(frame, true) });
+  for (const why of [false, true]) tables[boundsTable({ slack, why })] = tableOf("classes", boundColumns({ slack, why }), "id");
+const differenceTable = tableOf("differences", DIFFERENCE_COLUMNS);
+const frameTable = new Table(at("frames-table"), columns(FRAME_COLUMNS), { ...HOW, keys: ["id"], choose: (frame) => chooseFrame(frame, true) });
 
 // 2. The picture
 
@@ -361,7 +366,7 @@ async function draw(mine) {
   if (ran.source === null) return hidePicture(ran.why);
   const values = await drawValues();
   if (mine !== turn) return undefined;
-  const told = await ask(mine, { job: "draw", input: encoded(ran.source), beside: new Uint8Array(), values });
+  const told = await ask(mine, { job: "draw", text: ran.source, beside: new Uint8Array(), values });
   if (!told) return undefined;
   if (told.status === 0) {
     await drawOther(mine, told, values);
@@ -459,6 +464,7 @@ function addressOf(link, content, type) {
 function showAnswers(name, output, text) {
   const end = text.length > SHOWN ? text.lastIndexOf("\n", SHOWN) + 1 : text.length;
   at("answers").textContent = text.slice(0, end);
+  markNewLines();
   at("cut").hidden = end === text.length;
   at("cut").textContent = `The first ${end.toLocaleString("en")} of ${text.length.toLocaleString("en")} characters are shown; saved are all.`;
   addressOf(at("save-answers"), output, "text/plain");
@@ -479,6 +485,8 @@ function showRefused(name, text, answers) {
     item.append(button);
     return item;
   });
+  notTaken = refused.map(({ line: number, answer }) => ({ line: number, said: answer }));
+  underlineText();
   at("refused-list").replaceChildren(...items);
   at("refused").hidden = items.length === 0;
 }
@@ -500,43 +508,71 @@ function windowsIn(answers) {
   return found;
 }
 
+// The rows of the table of numbers that a run comes to.
+const numbersOf = (run) => (run.job === "check" ? run.windows : JUDGED.includes(run.job) ? run.paths?.paths ?? run.bounds[chosen()]?.streams ?? [] : run.classes);
+
 function showTables() {
-  const rows = { script: () => ran.classes, replay: () => ran.classes, check: () => ran.windows, bounds: () => streamsOf(ran), paths: () => streamsOf(ran), streams: () => ran.classes }[ran.job]();
+  const rows = numbersOf(ran);
   for (const name of ["results-name", "numbers"]) at(name).hidden = !rows.length && !ran.frames.length;
   at("classes").hidden = !rows.length;
   at("save-table").hidden = !rows.length;
+  let changed = 0;
   if (rows.length) {
     const table = tables[ran.job === "bounds" ? boundsTable(ran.values) : ran.job];
-    table.show(rows);
+    changed += table.show(rows, ran.since && numbersOf(ran.since));
     addressOf(at("save-table"), encoded(table.csv), "text/csv");
   }
-  showHops();
+  changed += showHops();
+  sayChanged(changed);
   showDifferences();
   at("frames-box").hidden = !ran.frames.length;
   at("frames-name").textContent = `Frames (${ran.frames.length.toLocaleString("en")})`;
   if (at("frames-box").open) showFrames();
 }
 
-// The waits at the ports of a network, and their classes.
+// The waits at the ports of a network, and their classes; how many values are marked.
 function showHops() {
   at("hops-box").hidden = !ran.paths?.classes.length;
-  if (at("hops-box").hidden) return;
-  for (const [name, table, rows] of [["hops", hopTable, ran.paths.hops], ["ports", portTable, ran.paths.classes]]) {
-    table.show(rows);
+  if (at("hops-box").hidden) return 0;
+  let changed = 0;
+  for (const [name, table, rows] of [["hops", hopTable, "hops"], ["ports", portTable, "classes"]]) {
+    changed += table.show(ran.paths[rows], ran.since?.paths && ran.since.paths[rows]);
     addressOf(at(`save-${name}`), encoded(table.csv), "text/csv");
   }
+  return changed;
 }
 
 function showFrames() {
   if (!ran) return;
-  frameTable.show(ran.frames);
+  frameTable.show(ran.frames, ran.since?.frames);
+}
+
+// Says how many numbers are others than before the last change, where what is shown is compared with that.
+function sayChanged(changed) {
+  at("changed").textContent = !ran.since || !ran.isWhole ? "" : changed ? `Marked: ${count(changed, "value")} that the last change altered.` : "The last change altered none of these numbers.";
+}
+
+// Marks the lines of the answers that were not there before the last change, unless they are very many.
+function markNewLines() {
+  if (!CSS.highlights) return; // (the tables are marked all the same)
+  CSS.highlights.delete("changed");
+  const text = at("answers").firstChild;
+  if (!ran.since || !text) return;
+  const earlier = new Set(ran.since.answers.split("\n"));
+  const ranges = [];
+  let begin = 0;
+  for (const line of text.data.split("\n")) {
+    if (!earlier.has(line)) ranges.push(new StaticRange({ startContainer: text, startOffset: begin, endContainer: text, endOffset: begin + line.length }));
+    begin += line.length + 1;
+  }
+  if (ranges.length <= MOST_NEW) CSS.highlights.set("changed", new Highlight(...ranges));
 }
 
 // Saves the port's own table of the frames of the script that was run; of a table of streams with the stream of each frame.
 async function saveFrames() {
   const { job: name, source, text, values, until } = ran;
   const table = encoded(name === "streams" ? text : "");
-  const told = await runner.run({ job: "frames", input: encoded(source), beside: table, values: { ...values, until } });
+  const told = await runner.run({ job: "frames", text: source, beside: table, values: { ...values, until } });
   if (told.status !== 0) {
     showFault(told.fault);
     return;
@@ -548,9 +584,16 @@ async function saveFrames() {
   setTimeout(() => URL.revokeObjectURL(link.href), 60_000);
 }
 
+// Underlines what was not taken of the text, if that is what was run, and a fault of it.
+function underlineText(...faults) {
+  editor.underline([...(ran?.text === editor.text ? notTaken : []), ...faults]);
+}
+
 function clearFault() {
   at("fault").hidden = true;
   for (const part of [editor, beside]) part.markLine(null);
+  underlineText();
+  beside.underline([]);
   for (const input of document.querySelectorAll(".options [aria-invalid], #zoom [aria-invalid]")) input.removeAttribute("aria-invalid");
 }
 
@@ -558,7 +601,7 @@ function clearFault() {
 const editorOf = (source) => (hasBeside(job()) && source === SECOND[job()] ? beside : editor);
 
 function showFault(text, input = null) {
-  const { text: words, line: number, source } = explain(text);
+  const { text: words, line: number, source, said } = explain(text);
   const second = number !== null && editorOf(source) === beside ? { streams: "Script: ", bounds: "Table: ", paths: "Network: " }[job()] : "";
   at("fault-text").textContent = `${second}${words}`;
   at("fault-hint").textContent = number === null ? "" : HINTS[job()];
@@ -566,7 +609,11 @@ function showFault(text, input = null) {
   if (field?.matches("input, select")) field.setAttribute("aria-invalid", "true");
   const folded = field?.closest("details");
   if (folded) folded.open = true;
-  if (number !== null) editorOf(source).markLine(number);
+  if (number !== null) {
+    editorOf(source).markLine(number);
+    if (editorOf(source) === editor) underlineText({ line: number, said });
+    else beside.underline([{ line: number, said }]);
+  }
   at("go").hidden = number === null && !field;
   at("fault").classList.remove("stale");
   at("go").textContent = !field ? "Go to the line" : input === "capture" ? "Go to the capture" : "Go to the option";
@@ -574,17 +621,11 @@ function showFault(text, input = null) {
   at("fault").hidden = false;
 }
 
-function linesIn(output) {
-  let lines = 0;
-  for (const octet of output) if (octet === 10) lines += 1;
-  return lines;
-}
-
-function sayStatus({ status, output, time }) {
+function sayStatus({ status, lines, time }) {
   const names = { 0: "Done", 2: "A value is refused", 3: "The input has a fault", 4: "Out of memory" };
   clearTimeout(slow);
   const after = status === 3 ? " before it" : "";
-  ran.said = `${names[status]}: ${count(linesIn(output), "line")}${after}, in ${time.toFixed(time < 10 ? 1 : 0)} ms (status ${status}).`;
+  ran.said = `${names[status]}: ${count(lines, "line")}${after}, in ${time.toFixed(time < 10 ? 1 : 0)} ms (status ${status}).`;
   say(ran.said, status === 0);
 }
 
@@ -677,9 +718,21 @@ async function snapshot() {
   const [name, text] = [job(), editor.text];
   const second = name === "replay" ? capture : encoded(hasBeside(name) ? beside.text : "");
   const values = await valuesFor(name, readMoments);
-  if (name === "replay" && !second.length) throw new BadOption("capture", "No capture is chosen: choose a classic pcap file, or drop one on the page.");
+  if (name === "replay" && !second.length) throw new BadOption("capture", "No capture is chosen: choose a pcap or pcapng file, or drop one on the page.");
   const { rate, mtu, room } = values;
-  return { job: name, text, beside: second, besideText: beside.text, otherText: COMPARED.includes(name) ? other.text.trimEnd() : "", other: null, values, port: { rate, mtu, room }, until: null, frames: [], wire: [], times: timesOf([]), classes: [], changes: [], history: null, kinds: null, first: 0n, last: 0n, windows: [], bounds: [], paths: null, schedules: [], source: null, why: "", drawn: null, window: null, waits: null };
+  return { job: name, text, beside: second, besideText: beside.text, otherText: COMPARED.includes(name) ? other.text.trimEnd() : "", other: null, values, port: { rate, mtu, room }, until: null, frames: [], wire: [], times: timesOf([]), classes: [], changes: [], history: null, kinds: null, first: 0n, last: 0n, windows: [], bounds: [], paths: null, schedules: [], source: null, why: "", drawn: null, window: null, waits: null, since: null, isWhole: false };
+}
+
+// What a run came to, as far as the next one is compared with it.
+const gistOf = ({ job: name, values, classes, windows, bounds, paths, frames, answers }) => ({ job: name, values, classes, windows, bounds, paths, frames, answers });
+
+// What a run is compared with: the run before the last change of the same input, where that is short; and before the whole of a move by hand.
+function sinceOf(before, next) {
+  if (another || !before || before.job !== next.job || !isShort()) return null;
+  if (beforeMove) return beforeMove;
+  // (a run with a fault tells no numbers)
+  if (!before.isWhole) return before.since;
+  return isSame(before, next) && before.otherText === next.otherText ? before.since : gistOf(before);
 }
 
 // Does a job for a run, and null where another run has begun since.
@@ -690,8 +743,8 @@ async function ask(mine, request) {
 
 // What a script and its answers come to.
 async function takeRun(mine, run, script, until, answers) {
-  const told = await ask(mine, { job: "fates", script, answers, values: { ...run.values, until } });
-  if (told) Object.assign(run, { frames: told.frames, wire: told.wire, times: told.times, classes: told.classes, changes: told.changes, history: told.history, kinds: told.kinds, first: told.first, last: told.last, source: script, until, waits: null });
+  const told = await ask(mine, { job: "fates", text: script, answers, values: { ...run.values, until } });
+  if (told) Object.assign(run, { frames: told.frames, wire: Array.from(told.order, (place) => told.frames[place]), times: told.times, classes: told.classes, changes: told.changes, history: told.history, kinds: told.kinds, first: told.first, last: told.last, source: script, until, waits: null });
   if (told && ["script", "replay"].includes(run.job)) run.window = windowOf(run);
 }
 
@@ -700,7 +753,7 @@ async function takeSchedule(mine) {
   const { number, name, line: text } = chosenSchedule() ?? {};
   if (number === undefined) return;
   if (ran.job === "paths") ran.port = valuesOfPort(ran.besideText, name, ran.values);
-  const told = await ask(mine, { job: "script", input: encoded(`${text}\n`), beside: new Uint8Array(), values: { ...ran.values, ...ran.port, until: null, summary: false } });
+  const told = await ask(mine, { job: "script", text: `${text}\n`, beside: new Uint8Array(), values: { ...ran.values, ...ran.port, until: null, summary: false } });
   if (!told) return;
   await takeRun(mine, ran, `${text}\n`, null, new TextDecoder().decode(told.output));
   const [it] = ran.changes;
@@ -714,9 +767,11 @@ async function takeSchedule(mine) {
 
 // The script that a table of streams became is run, too: it is what its picture shows.
 async function takeScript(mine, run, script) {
-  const until = readScript(script).last + GOES_ON;
+  const read = await ask(mine, { job: "lastOf", text: script });
+  if (!read) return;
+  const until = read.last + GOES_ON;
   const values = { ...run.values, until: until < GREATEST ? until : GREATEST };
-  const told = await ask(mine, { job: "script", input: encoded(script), beside: new Uint8Array(), values });
+  const told = await ask(mine, { job: "script", text: script, beside: new Uint8Array(), values });
   if (!told) return;
   if (told.status === 0) {
     run.told = new TextDecoder().decode(told.output);
@@ -728,10 +783,12 @@ async function takeScript(mine, run, script) {
 
 // A replay is drawn as the script that it comes to. Where no end is given it goes on until no frame can start, which is at the last end.
 async function takeReplay(mine, run, answers) {
-  const script = scriptOfReplay(linesOf(run.text), recordsOf(run.beside));
-  const ends = [...answers.matchAll(/^start .* end (\d+)/gm)].map(([, end]) => BigInt(end));
-  const last = ends.reduce((most, it) => (it > most ? it : most), readScript(script).last);
-  await takeRun(mine, run, script, run.values.until ?? last, answers);
+  const told = await ask(mine, { job: "replayed", text: run.text, beside: run.beside });
+  if (!told) return;
+  // (frames start one after another: the last one that starts is the last one that ends)
+  const [, end] = /^start .* end (\d+)/.exec(answers.slice(answers.lastIndexOf("\nstart ") + 1)) ?? [];
+  const last = end !== undefined && BigInt(end) > told.last ? BigInt(end) : told.last;
+  await takeRun(mine, run, told.script, run.values.until ?? last, answers);
 }
 
 // What the answers of a run come to: `told` are those to its schedule commands.
@@ -760,7 +817,7 @@ async function takeCheck(mine, answers) {
 }
 
 // What a check tells of schedules, with their windows.
-const checkWindows = (mine, text) => ask(mine, { job: "check", input: encoded(text), beside: new Uint8Array(), values: { ...ran.values, windows: true } });
+const checkWindows = (mine, text) => ask(mine, { job: "check", text, beside: new Uint8Array(), values: { ...ran.values, windows: true } });
 
 // What the answers of what stands in the page come to, and which of its schedules is shown.
 async function takeOwn(mine, answers) {
@@ -782,7 +839,7 @@ const staysShown = (typed) => typed && ran !== null && !viewer.isHeld;
 async function work(mine, typed) {
   const next = await snapshot();
   if (mine !== turn) return;
-  const told = await ask(mine, { job: next.job, input: encoded(next.text), beside: next.beside, values: next.values });
+  const told = await ask(mine, { job: next.job, text: next.text, beside: next.beside, values: next.values });
   if (!told) return;
   clearFault();
   if (staysShown(typed) && told.status !== 0) {
@@ -799,42 +856,67 @@ async function work(mine, typed) {
   ran.answers = answers;
   // (of a long script the picture is drawn first, and its frames are found then)
   const late = ran.job === "script" && told.status === 0 && answers.length > LONG;
+  ran.since = late ? null : sinceOf(before, next);
+  ran.isWhole = told.status === 0;
+  another = false;
   if (late) ran.source = ran.text;
   else if (told.status === 0) {
     await takeOwn(mine, answers);
     if (mine === turn) await takeOther(mine, typed ? before : null);
   }
-  if (mine !== turn) return;
-  fillOrigins(ran);
-  at("results").hidden = false;
-  setStale(false);
-  showAnswers(ran.job, told.output, answers);
-  showRefused(ran.job, ran.text, answers);
-  showTables();
-  at("save-departures").hidden = true;
-  if (ran.job === "replay") addressOf(at("save-departures"), told.departures, "application/vnd.tcpdump.pcap");
-  sayStatus(told);
-  clearVerdict(late ? LOOKING : "");
+  if (!(await showRun(mine, told, answers, late))) return;
   if (told.status !== 0) {
     showFault(told.fault);
     hidePicture(["script", "replay", "check"].includes(ran.job) ? "No picture: the run has a fault." : "");
     return;
   }
-  if (!late) sayVerdict(answers);
   await draw(mine);
   if (late && mine === turn) await takeLate(mine, answers, typed ? before : null);
+}
+
+// Does steps one after another; where the answers are long with a pause before each, so that a key waits for one of them alone. False where another run
+// has begun since.
+async function inSteps(mine, ...steps) {
+  for (const step of steps) {
+    if (mine === turn && ran.answers.length > LONG) await new Promise((resolve) => setTimeout(resolve));
+    if (mine !== turn) return false;
+    step();
+  }
+  return true;
+}
+
+// Shows what a run came to, but for its picture.
+function showRun(mine, told, answers, late) {
+  return inSteps(
+    mine,
+    () => {
+      fillOrigins(ran);
+      at("results").hidden = false;
+      setStale(false);
+    },
+    () => showAnswers(ran.job, told.output, answers),
+    () => showRefused(ran.job, ran.text, answers),
+    () => {
+      showTables();
+      at("save-departures").hidden = true;
+      if (ran.job === "replay") addressOf(at("save-departures"), told.departures, "application/vnd.tcpdump.pcap");
+    },
+    () => {
+      sayStatus(told);
+      clearVerdict(late ? LOOKING : "");
+      if (!late && told.status === 0) sayVerdict(answers);
+    },
+    () => sortedOf(ran.frames), // (the picture looks them up there)
+  );
 }
 
 // The frames of a long script, when its picture stands already.
 async function takeLate(mine, answers, before) {
   await takeOwn(mine, answers);
   if (mine === turn) await takeOther(mine, before);
-  if (mine !== turn) return;
-  fillOrigins(ran);
-  showTables();
-  sayVerdict(answers);
+  if (!(await inSteps(mine, () => fillOrigins(ran), () => showTables(), () => sayVerdict(answers), () => sortedOf(ran.frames)))) return;
   if (ran.window || ran.other) await draw(mine);
-  else if (ran.drawn) layPicture();
+  else if (ran.drawn) await inSteps(mine, layPicture);
 }
 
 // What was typed has a fault: what is shown is still of an earlier text, and is marked as such.
@@ -912,6 +994,7 @@ const isShort = () => editor.text.length + other.text.length + (hasBeside(job())
 // What stands in the page was changed: it is run after a moment without another change, where it is short.
 function runSoon() {
   clearTimeout(runTimer);
+  if (!document.body.classList.contains("moving")) beforeMove = null;
   showGates();
   if (isShort()) {
     setStale(true, "");
@@ -950,6 +1033,7 @@ function sayOther(words, line = null) {
   at("other-fault").hidden = !words;
   at("other-fault").textContent = words;
   other.markLine(line);
+  other.underline(line === null ? [] : [{ line, said: words.replace(/^Line \d+: /, "") }]);
 }
 
 // Whether two runs are of one input: then what stood beside the first can stand beside the second.
@@ -987,7 +1071,7 @@ async function takeOther(mine, before) {
 
 async function runOther(mine, words, windows, before) {
   const run = { ...ran, ...inputOfOther(words), source: null, drawn: null };
-  const told = await ask(mine, { job: run.job, input: encoded(run.text), beside: run.beside, values: run.values });
+  const told = await ask(mine, { job: run.job, text: run.text, beside: run.beside, values: run.values });
   if (!told) return;
   run.answers = new TextDecoder().decode(told.output);
   if (told.status === 0) await takeAnswers(mine, run, run.answers);
@@ -1028,7 +1112,7 @@ async function drawOther(mine, { output }, values) {
   const its = ran.other;
   if (!its) return;
   const shown = its.source === null ? null : shownIn(new TextDecoder().decode(output), values);
-  const told = shown && (await ask(mine, { job: "draw", input: encoded(its.source), beside: new Uint8Array(), values: { ...values, ...shown } }));
+  const told = shown && (await ask(mine, { job: "draw", text: its.source, beside: new Uint8Array(), values: { ...values, ...shown } }));
   if (mine !== turn) return;
   its.drawn = told?.status === 0 ? { text: new TextDecoder().decode(told.output), shown } : null;
   if (its.drawn) addressOf(at("save-other-picture"), told.output, "image/svg+xml");
@@ -1129,6 +1213,7 @@ function openGates() {
 function noteGates(source) {
   const part = gateEditors()[source];
   const typed = part.fresh ? null : part.put;
+  beforeMove = ran?.isWhole ? gistOf(ran) : null;
   notePast();
   if (typed !== null) past.splice(-1, 0, { ...past.at(-1), [["text", "beside", "other"][editors.indexOf(part)]]: typed });
 }
@@ -1227,6 +1312,7 @@ const stateNow = () => ({ job: jobShown, ...wordsOfOptions(), ...(hasBeside(jobS
 
 // Puts a text, its kind and its options into the page, and runs it.
 function load(state) {
+  another = true;
   setJob(NAMES[state.job] ? state.job : "script");
   // (the picture of a check, and of a port, is of two cycles of the schedule that is chosen)
   setOptions(ALONE.includes(state.job) ? { ...state, from: "", to: "" } : state);
@@ -1421,6 +1507,7 @@ function dropLink() {
 
 // Another text of one's own begins: what stood here is kept as it is.
 function beginAnother() {
+  another = true;
   if (!editor.text.trim()) return;
   notePast();
   if (exampleShown === OWN) entry = {};
@@ -1506,6 +1593,19 @@ function textOf(octets) {
   return form ? importOf(text, form, "") : text;
 }
 
+// The classic capture of one in pcapng, or null where it can't be read. It is said either way.
+async function classicCapture(octets) {
+  try {
+    const told = await runner.run({ job: "classic", octets });
+    const rounded = told.isRounded ? " Note: moments are rounded down to whole nanoseconds." : "";
+    sayRead(`This is a capture in pcapng: read as a classic one of ${count(told.packets, "frame")}.${rounded}`);
+    return told.octets;
+  } catch (error) {
+    sayRead(`This is a capture in pcapng, and can't be read: ${error.message}. What stood here stays.`, true);
+    return null;
+  }
+}
+
 // Takes a file by what its octets are.
 async function takeFile(file) {
   sayRead("");
@@ -1515,10 +1615,12 @@ async function takeFile(file) {
     say(`${file.name}: ${kind.why}`);
     return;
   }
-  if (kind.kind === "capture") {
+  if (["capture", "pcapng"].includes(kind.kind)) {
+    const classic = kind.kind === "capture" ? octets : await classicCapture(octets);
+    if (!classic) return;
     beginAnother();
     setJob("replay");
-    setCapture(octets, file.name);
+    setCapture(classic, file.name);
     // (the frames of a replay are those of the capture)
     if (FRAME_LINE.test(editor.text)) editor.text = editor.text.split("\n").filter((it) => !FRAME_LINE.test(it)).join("\n");
     at("until").value = "";
@@ -1586,8 +1688,8 @@ async function takeAsScript() {
   await load({ job: "script", rate, mtu, room, text, other: its });
 }
 
-// A file may be dropped anywhere, and the page shows so while it is dragged; text that is dragged stays with the browser.
-function listenToDrops() {
+// A file may be dropped or pasted anywhere, and the page shows so while it is dragged; text that is dragged stays with the browser.
+function listenToFiles() {
   const mark = (is) => document.body.classList.toggle("dropping", is);
   const isFile = (event) => event.dataTransfer?.types.includes("Files");
   addEventListener("dragover", (event) => {
@@ -1601,6 +1703,12 @@ function listenToDrops() {
     if (!isFile(event)) return;
     event.preventDefault();
     if (event.dataTransfer.files[0]) takeFile(event.dataTransfer.files[0]);
+  });
+  addEventListener("paste", (event) => {
+    const [file] = event.clipboardData?.files ?? [];
+    if (!file) return;
+    event.preventDefault();
+    takeFile(file);
   });
 }
 
@@ -1670,7 +1778,7 @@ function listenToResults() {
 function listen() {
   listenToInput();
   listenToResults();
-  listenToDrops();
+  listenToFiles();
   addEventListener("hashchange", openLink);
   addEventListener("keydown", undoByKey);
   for (const name of ["pagehide", "visibilitychange"]) addEventListener(name, () => keepNow());

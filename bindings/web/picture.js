@@ -1,8 +1,10 @@
 // A picture of the port within the page: what time it shows, how to move in it, and which frame lies where.
+import { sortedOf } from "./frames.js";
 import { GREATEST, ticks } from "./moments.js";
 import { shadeOf, shaded } from "./shades.js";
 import { BOTTOM, LEFT, RIGHT, ROW, STEP, TOP, placeOfRow } from "./sizes.js";
 import { element } from "./svg.js";
+import { countFirst } from "./why.js";
 
 const CROSS = 8; // the width and the height of a cross
 const ABOVE = 30; // what is cut off at the top, where the port writes a heading
@@ -106,10 +108,7 @@ const rowOf = (kind) => TOP + (7 - kind) * STEP;
 // Says in each row how many frames wait to its end and on. Their waits are drawn by the port.
 function putLeft(svg, shown, frames) {
   const left = new Map();
-  for (const it of frames) {
-    if (it.fate !== "left" || it.arrival >= shown.to) continue;
-    left.set(it.class, (left.get(it.class) ?? 0) + 1);
-  }
+  for (const it of sortedOf(frames).left) if (it.arrival < shown.to) left.set(it.class, (left.get(it.class) ?? 0) + 1);
   for (const [kind, number] of left) {
     const y = rowOf(kind);
     svg.append(element("text", { class: "l", x: shown.width - 4, y: y + 19 }, `${number} ${number === 1 ? "waits" : "wait"} ▸`));
@@ -174,9 +173,8 @@ const shadedSign = () => [
 
 /** The classes whose rows are shown: those of the map, all eight where there is none, and those of the frames. */
 export function kindsShown(kinds, frames) {
-  const used = [];
-  for (const it of frames) if (it.class !== null) used[it.class] = true;
-  return [0, 1, 2, 3, 4, 5, 6, 7].filter((it) => kinds === null || it < kinds || used[it]);
+  const used = sortedOf(frames).kinds;
+  return [0, 1, 2, 3, 4, 5, 6, 7].filter((it) => kinds === null || it < kinds || used.includes(it));
 }
 
 // How far each row moves down since rows below it are not shown; those that aren't shown have null. The row of the wire stays.
@@ -209,6 +207,18 @@ function moveRows(svg, { moves, above }) {
     }
   }
   return legend;
+}
+
+// The first frame of a class that is on the wire about a moment, if any.
+function sentAt(queue, at, near) {
+  const it = queue[countFirst(queue, ({ end }) => end !== null && end + near <= at)];
+  return it && it.start !== null && it.start <= at + near ? it : null;
+}
+
+// The first frame of a class that waits about a moment, if any.
+function waitingAt(queue, at, near) {
+  const it = queue[countFirst(queue, ({ start }) => start !== null && start + near <= at)];
+  return it && it.arrival <= at + near ? it : null;
 }
 
 /** A picture in the page. */
@@ -316,22 +326,17 @@ export class Picture {
     const at = this.moment(x);
     const dropped = this.#droppedAt(x, y);
     if (dropped) return dropped;
-    let found = null;
-    for (const it of this.frames) {
-      if (it.arrival > at + near) break;
-      const sent = it.start !== null && it.start <= at + near && at < it.end + near;
-      if (sent && (row === "wire" || it.class === row)) return it;
-      const waits = it.class === row && (it.start === null ? it.fate === "left" : at < it.start + near);
-      if (waits) found ??= it;
-    }
-    return found;
+    const { queues } = sortedOf(this.frames);
+    const sent = (row === "wire" ? queues : [queues[row]]).map((it) => sentAt(it, at, near)).filter(Boolean);
+    if (sent.length) return sent.reduce((one, other) => (other.taken < one.taken ? other : one));
+    return row === "wire" ? null : waitingAt(queues[row], at, near);
   }
 
   // The frame whose cross lies at a place.
   #droppedAt(x, y) {
     const at = this.#portHeight(y);
     const cross = this.crosses.find((it) => Math.abs(it.x - x) < CROSS && Math.abs(it.y - at) < CROSS);
-    return cross && this.frames.find((it) => isDropped(it) && this.#isAt(cross, it));
+    return cross && sortedOf(this.frames).dropped.find((it) => this.#isAt(cross, it));
   }
 
   /** The open time of a class at a place, by the picture's bands: about from when to when, or null. */

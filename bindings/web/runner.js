@@ -8,12 +8,13 @@ export class Runner {
   #source;
   #octets;
   #worker = null;
+  #text = null; // the text that the worker was given last
   #waiting = new Map();
   #next = 0;
 
   /**
    * @param {string} source the worker's script
-   * @param {Uint8Array} octets the WebAssembly module
+   * @param {Uint8Array} octets the WebAssembly module, packed as deflate-raw
    */
   constructor(source, octets) {
     this.#source = source;
@@ -23,12 +24,15 @@ export class Runner {
   /**
    * Does a job.
    *
-   * @param {object} request as taprio.js wants it
+   * @param {object} request as taprio.js wants it, but for its input, which is a text: `text`
    * @returns {Promise<{status: number, output: Uint8Array, fault: string, time: number}>} what it tells, and its milliseconds
    */
   async run(request) {
     if (!this.#worker) this.#start();
-    return (await this.#ask({ request })).told;
+    const { text, ...rest } = request;
+    const isKnown = text === undefined || text === this.#text;
+    if (!isKnown) this.#text = text;
+    return (await this.#ask({ request: isKnown ? rest : request })).told;
   }
 
   /** Ends what is being done. */
@@ -45,22 +49,28 @@ export class Runner {
     worker.onmessage = ({ data }) => this.#hear(data);
     worker.onerror = (event) => this.#end(new Error(event.message || "The page's worker did not start."));
     this.#worker = worker;
+    this.#text = null;
     this.#ask({ octets: this.#octets }).catch(() => {});
   }
 
   #ask(message) {
     const id = this.#next++;
     const { promise, resolve, reject } = Promise.withResolvers();
-    this.#waiting.set(id, { resolve, reject });
+    this.#waiting.set(id, { resolve, reject, frames: [] });
     this.#worker.postMessage({ id, ...message });
     return promise;
   }
 
-  #hear({ id, error, ...said }) {
+  // (of frames lots come, and then what is told beside them)
+  #hear({ id, lot, error, ...said }) {
     const waits = this.#waiting.get(id);
+    if (lot) {
+      waits?.frames.push(...lot);
+      return;
+    }
     this.#waiting.delete(id);
     if (error) waits?.reject(new Error(error));
-    else waits?.resolve(said);
+    else waits?.resolve(said.told ? { ...said, told: { ...said.told, frames: waits.frames } } : said);
   }
 
   #end(error) {

@@ -45,15 +45,23 @@ def sums():
     return found
 
 
-def told():
-    """The sums as the page has them."""
-    return " ".join(f"{name}={it}" for name, it in sums().items())
+def had_by(page):
+    """The sums that a page's text has, by the names of their parts."""
+    had = TOLD.search(page)
+    return dict(it.split("=") for it in had[1].split()) if had else {}
+
+
+def told(earlier=None):
+    """The sums as the page has them. With the module of an earlier page those of the crates are that page's."""
+    now = sums()
+    if earlier is not None:
+        now = {name: it for name, it in had_by(earlier).items() if name.startswith("crates/")} | {name: now[name] for name in ("web", "examples")}
+    return " ".join(f"{name}={it}" for name, it in now.items())
 
 
 def differing(page):
     """The parts that are others now than those that a page's text was made from."""
-    had = TOLD.search(page)
-    had = dict(it.split("=") for it in had[1].split()) if had else {}
+    had = had_by(page)
     now = sums()
     return sorted(name for name in had.keys() | now.keys() if had.get(name) != now.get(name))
 

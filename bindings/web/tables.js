@@ -9,14 +9,15 @@ const ROWS = 500; // rows that are shown
 export class Table {
   #columns;
   #rows = [];
+  #earlier = null; // by their keys, the rows of an earlier run, with which these are compared
   #by = null;
   #down = false;
 
   /**
    * @param {HTMLElement} box
    * @param {{name: string, title: string, kind: string}[]} columns
-   * @param {{time: (time: bigint) => string, moment: (moment: bigint) => string, change?: (value: bigint | number | string) => string, choose?: (row: object) => void}} how writes times, and is
-   *   told of a row that is clicked
+   * @param {{time: (time: bigint) => string, moment: (moment: bigint) => string, change?: (value: bigint | number | string) => string, choose?: (row: object) => void,
+   *   keys?: string[]}} how writes times, is told of a row that is clicked, and has the columns that name a row
    */
   constructor(box, columns, how) {
     this.box = box;
@@ -24,10 +25,30 @@ export class Table {
     this.#columns = columns;
   }
 
-  /** Shows rows, as they are sorted now. */
-  show(rows) {
+  /**
+   * Shows rows, as they are sorted now. Where those of an earlier run are given, each value that was another one then is marked.
+   *
+   * @param {object[]} rows
+   * @param {object[] | null} earlier
+   * @returns {number} how many values are marked
+   */
+  show(rows, earlier = null) {
     this.#rows = rows;
+    this.#earlier = earlier && this.#byKey(earlier);
     this.draw();
+    return this.box.querySelectorAll("td.changed").length;
+  }
+
+  // Rows by their keys; of rows with one key each has its number, too.
+  #byKey(rows) {
+    const found = new Map();
+    const seen = new Map();
+    for (const row of rows) {
+      const key = this.how.keys.map((name) => row[name]).join(" ");
+      seen.set(key, (seen.get(key) ?? 0) + 1);
+      found.set(`${key} ${seen.get(key)}`, row);
+    }
+    return found;
   }
 
   /** The rows as CSV, times in picoseconds. */
@@ -88,9 +109,11 @@ export class Table {
 
   #body() {
     const body = document.createElement("tbody");
+    const keys = this.#earlier && new Map([...this.#byKey(this.#rows)].map(([key, row]) => [row, key]));
     for (const it of this.#sorted().slice(0, ROWS)) {
       const row = document.createElement("tr");
       for (const { name, kind } of this.#columns) row.append(this.#cell(it[name], kind));
+      if (keys) this.#markChanged(row, it, this.#earlier.get(keys.get(it)));
       if (it.tone) row.className = it.tone;
       if (this.how.choose) {
         row.tabIndex = 0;
@@ -103,11 +126,25 @@ export class Table {
     return body;
   }
 
+  // Marks the values of a row that were others in the row of an earlier run, or all where there was none, and says what they were.
+  #markChanged(row, now, before) {
+    for (const [place, { name, kind }] of this.#columns.entries()) {
+      if (before && (before[name] ?? null) === (now[name] ?? null)) continue;
+      const cell = row.cells[place];
+      cell.classList.add("changed");
+      cell.title = [cell.title, before ? `before: ${this.#written(before[name], kind)}` : "not there before"].filter(Boolean).join("; ");
+    }
+  }
+
+  #written(value, kind) {
+    return value === null || value === undefined ? "–" : typeof value === "bigint" || kind === "change" ? this.how[kind](value) : String(value);
+  }
+
   #cell(value, kind) {
     const cell = document.createElement("td");
     const time = typeof value === "bigint";
     cell.className = kind;
-    cell.textContent = value === null || value === undefined ? "–" : time || kind === "change" ? this.how[kind](value) : String(value);
+    cell.textContent = this.#written(value, kind);
     if (time) cell.title = `${value} ps`;
     return cell;
   }

@@ -19,7 +19,7 @@ import time
 import tomllib
 import zlib
 
-from bundle import modules, options
+from bundle import module_in, modules, options, packed as packed_module
 from browsers import Broken, Chromium, Firefox, wait_for
 
 WEB = pathlib.Path(__file__).resolve().parent
@@ -1626,7 +1626,7 @@ def try_files(page):
     page.browser.type(text.decode())
     wait_for(page.browser, FRESH, 3)
     give(page, "my.pcapng", bytes.fromhex("0a0d0d0a1c000000"))
-    page.same("pcapng", page.text("status"), "my.pcapng: this is a pcapng file. Make a classic one of it: editcap -F nsecpcap IN OUT")
+    page.same("pcapng", page.text("read-as"), "This is a capture in pcapng, and can't be read: it ends within a block, or is malformed. What stood here stays.")
     page.same("and the text stays", page.do("return at('text').value"), text.decode())
     for name, octets, why in (("a.gz", b"\x1f\x8b\x08\0", "this is a gzip file. Unpack it first: gunzip FILE"), ("a.png", b"\x89PNG\r\n\x1a\n\0", "this is neither text nor a classic pcap file.")):
         give(page, name, octets)
@@ -1646,6 +1646,186 @@ def try_files(page):
     give(page, "my.streams", table)
     page.same("a table", page.do("return [at('form').elements.job.value, at('text').value]"), ["streams", table.decode()])
     page.same("its frames leave", page.text("verdict")[:51], "As a script, run to 1 ms after its end: 5 frames sent"[:51])
+
+
+MOST_OCTETS = 1_300_000  # of the page
+
+
+def try_weight(page):
+    """The page is small, and has its module whole."""
+    page.same("octets of the page", len(PAGE.read_bytes()) <= MOST_OCTETS, True)
+    page.same("its module is packed", module_in(PAGE.read_text(encoding="utf-8"))[:4], b"\0asm")
+
+
+PCAPNG = TOP / "tests" / "imports" / "pcapng.toml"
+# The capture that stands in the page, as it is kept for a reload.
+KEPT_CAPTURE = "return JSON.parse(sessionStorage.getItem('taprio')).capture ?? ''"
+
+
+def try_pcapng(page):
+    """Captures in pcapng are read as the package of Python reads them, where they are dropped and where they are pasted."""
+    page.choose("machine.pcap")
+    script = "clock 1000\n"
+    page.set("text", script)
+    page.run()
+    for number, case in enumerate(tomllib.loads(PCAPNG.read_text(encoding="utf-8"))["case"]):
+        name, octets = case["name"], bytes.fromhex(case["input"])
+        before = page.do(KEPT_CAPTURE)
+        if number % 4 == 1:
+            page.do(f"""const data = new DataTransfer(); data.items.add(new File([Uint8Array.from({list(octets)})], 'my.pcapng'));
+                const event = new Event('paste', {{ bubbles: true, cancelable: true }}); Object.defineProperty(event, 'clipboardData', {{ value: data }});
+                at('text').dispatchEvent(event)""")
+            time.sleep(0.3)
+            page.settle()
+        else:
+            give(page, "my.pcapng", octets)
+        said = page.text("read-as")
+        if "fault" in case:
+            page.same(f"{name}: fault", [said.startswith("This is a capture in pcapng, and can't be read: "), case["fault"] in said, said.endswith(" What stood here stays.")], [True, True, True])
+            page.same(f"{name}: the capture stays", page.do(KEPT_CAPTURE), before)
+            continue
+        classic = bytes.fromhex(case["classic"])
+        frames = records_in(classic)
+        note = " Note: moments are rounded down to whole nanoseconds." if case.get("rounded") else ""
+        page.same(f"{name}: what it is", said, f"This is a capture in pcapng: read as a classic one of {frames} frame{'s' * (frames != 1)}.{note}")
+        page.same(f"{name}: the capture", base64.b64decode(page.do(KEPT_CAPTURE)), classic)
+        page.same(f"{name}: it is run", page.text("status")[:5], "Done:")
+    page.choose("first.script")
+
+
+def records_in(octets):
+    """How many records a classic capture has."""
+    at, found = 24, 0
+    while at < len(octets):
+        at += 16 + int.from_bytes(octets[at + 8 : at + 12], "little")
+        found += 1
+    return found
+
+
+MARKED = "return [...document.querySelectorAll('#classes td.changed')].map((it) => [it.parentElement.cells[0].textContent, it.textContent, it.title])"
+NEW_LINES = "const found = CSS.highlights.get('changed'); return found ? [...found].map((it) => it.startContainer.data.slice(it.startOffset, it.endOffset)) : null"
+
+
+def try_changed(page):
+    """What the last change altered is marked, in the tables and in the answers, and of a move by hand all of the move."""
+    page.choose("first.script")
+    page.same("an example has no marks", [page.do(MARKED), page.text("changed"), page.do(NEW_LINES)], [[], "", None])
+    text = "frame 1 3 100\nframe 2 0 60\nclock 5000000\n"
+    page.type(text)
+    page.same("another text has none", [page.do(MARKED), page.text("changed")], [[], ""])
+    page.do(f"at('text').setSelectionRange({text.index('60')}, {text.index('60') + 2})")
+    page.browser.type("600")
+    wait_for(page.browser, FRESH, 3)
+    # (the second frame is longer now, and waits as long as before)
+    page.same("a longer frame alters no wait", [page.do(MARKED), page.text("changed")], [[], "The last change altered none of these numbers."])
+    page.same("but a line of the answers", page.do(NEW_LINES), [it for it in page.text("answers").split("\n") if it.startswith("start 2 ")])
+    page.do(f"at('text').setSelectionRange({text.index('100')}, {text.index('100') + 3})")
+    page.browser.type("300")
+    wait_for(page.browser, FRESH, 3)
+    marked = page.do(MARKED)
+    page.same("a longer frame before it alters the waits", [it[:2] for it in marked], 3 * [["0", "2.592 us"]])
+    page.same("each says what it was", [it[2] for it in marked], 3 * ["2592000 ps; before: 992 ns"])
+    page.same("how many", page.text("changed"), "Marked: 3 values that the last change altered.")
+    page.run()
+    page.same("they stay in a run of the same", [page.do(MARKED), page.text("changed")], [marked, "Marked: 3 values that the last change altered."])
+    page.browser.shoot(SHOTS / f"{page.browser.name}-changed.png")
+    last = page.do(TEXT)
+    page.set("text", f"{last}clok\n")
+    page.run()
+    page.same("a run with a fault tells no numbers", [page.do("return at('fault').hidden"), page.text("changed")], [False, ""])
+    page.set("text", last.replace("300", "400"))
+    wait_for(page.browser, FRESH, 3)
+    page.same("and the next one is compared with that before it", [it[1:] for it in page.do(MARKED)], 3 * [["3.392 us", "3392000 ps; before: 2.592 us"]])
+    page.choose("schedule.script")
+    page.same("and go with another input", [page.do(MARKED), page.text("changed")], [[], ""])
+    page.type("tc qdisc replace dev eth0 root taprio num_tc 2 map 0 1 base-time 0 sched-entry S 02 100000 sched-entry S 01 200000\nclock 300000000\nframe 1 0 60\nclock 900000000\n")
+    page.do("document.querySelector('.edge').focus()")
+    press_edge(page, "ArrowLeft ArrowLeft ArrowLeft")
+    wait_for(page.browser, FRESH, 5)
+    page.same("three steps by keys are one move", page.do(MARKED), 3 * [["0", "97 us", "97000000 ps; before: 100 us"]])
+    page.choose("first.script")
+
+
+INK = "return [...document.querySelectorAll('#editor .letters div')].map((it) => [...it.children].map((part) => [part.className, part.textContent]))"
+ODD = "return [...document.querySelectorAll('.letters .odd')].filter((it) => it.checkVisibility()).map((it) => it.textContent)"
+WRONG_COMMANDS = [
+    "tc qdisc replace dev eth0 root taprio basetime 0",
+    "tc qdisc replace dev eth0 root taprio base-time 1us sched-entry S 01 300000",
+    "tc qdisc replace dev eth0 root taprio base-time 1 base-time 2 sched-entry S 01 300000",
+    "tc qdisc replace dev eth0 root taprio num_tc 1 sched-entry S 01 300000",
+    "tc qdisc replace dev eth0 root taprio num_tc 9 map 0 sched-entry S 01 300000",
+    "tc qdisc replace dev eth0 root taprio num_tc 1 map 0 0 0 0 0 0 0 0 0 0 0 0 0 0 0 0 0 sched-entry S 01 300000",
+    "tc qdisc replace dev eth0 root taprio num_tc 1 map 1 sched-entry S 01 300000",
+    "tc qdisc replace dev eth0 root taprio num_tc 2 map 0 1 queues 1@0 sched-entry S 01 300000",
+    "tc qdisc replace dev eth0 root taprio num_tc 1 map 0 queues 0@0 sched-entry S 01 300000",
+    "tc qdisc replace dev eth0 root taprio num_tc 2 map 0 1 queues 1@0 1@0 sched-entry S 01 300000",
+    "tc qdisc replace dev eth0 root taprio num_tc 1 map 0",
+    "tc qdisc replace dev eth0 root taprio num_tc 1 map 0 sched-entry S 01 0",
+    "tc qdisc replace dev eth0 root taprio num_tc 1 map 0 sched-entry S 1ff 300000",
+    "tc qdisc replace dev eth0 root taprio num_tc 1 map 0 sched-entry H 01 300000",
+    "tc qdisc replace dev eth0 root taprio num_tc 1 map 0 flags 0x1 sched-entry S 01 300000",
+    "tc qdisc replace dev eth0 root taprio sched-entry S 01 300000",
+    "tc qdisc replace dev eth0 root taprio num_tc 1 map 0 max-sdu 9000 sched-entry S 01 300000",
+    "tc qdisc replace dev eth0 root taprio num_tc 1 map 0 sched-entry S 01 300000 sched-entry S 01 300",
+    "tc qdisc replace dev eth0 root taprio num_tc 1 map 0 cycle-time 100 sched-entry S 01 300000",
+    "tc qdisc replace dev eth0 root taprio num_tc 1 map 0 cycle-time 2000000000000 sched-entry S 01 300000",
+    "tc qdisc replce dev eth0 root taprio num_tc 1 map 0 sched-entry S 01 300000",
+    "tc filter replace dev eth0 root taprio num_tc 1 map 0 sched-entry S 01 300000",
+]
+WRONG_LINES = ["clok 5", "frame 1 300 60", "frame x 0 60", "frame 1 0", "frame 1 0 60 tagged more", "frame 1 0 60 taged", "count 8", "count", "clock 5us", "clock 9223372036854775807001", "query now"]
+WRONG_STREAMS = ["strem 1 7 60 1ms 0us 1", "stream 1 7 60 1 0us 1", "stream 1 7 60 1ms soon 1", "stream 1 7 60 1ms any", "stream 1 7 60 1ms any 1 shortest x", "stream 1 7 60 1ms 0us 1 jitter 5", "stream 1 7 60 1ms 0us 1 tagged deadline 1us deadline 1us",
+                 "stream 1 7 60 0.0001ns 0us 1", "stream 1 7 60 1ms 0us 1 more"]
+
+
+def marked_word(errors):
+    """The word of a line that the program marks with --explain: nothing where it marks none, and a blank where one lacks at the end."""
+    rows = errors.decode().split("\n")
+    place = next((at for at, it in enumerate(rows) if it.strip() and not it.strip("^ ")), None)
+    if place is None:
+        return None
+    shown, marks = rows[place - 1], rows[place]
+    word = shown[marks.index("^") : marks.rindex("^") + 1]
+    return word or " "
+
+
+def try_ink(page):
+    """Words have colours where they stand, as they are typed and as they are scrolled; what a fault is about is underlined, as --explain marks it."""
+    page.choose("first.script")
+    page.type("# a comment 5\ntc qdisc replace dev eth0 root taprio num_tc 1 \\\n  map 0 sched-entry S 0f 300000\nframe 1 0 60 tagged\nfoo 5\n")
+    page.same("colours", page.do(INK), [
+        [["comment", "# a comment 5"]],
+        [["key", "tc"], *[["option", it] for it in ("qdisc", "replace", "dev", "root", "taprio", "num_tc")], ["number", "1"]],
+        [["option", "map"], ["number", "0"], ["option", "sched-entry"], ["number", "0f"], ["number", "300000"]],
+        [["key", "frame"], ["number", "1"], ["number", "0"], ["number", "60"], ["option", "tagged"]],
+        [["odd", "foo"], ["number", "5"]],
+        [],
+    ])
+    letters = "return document.querySelector('#editor .letters').innerText.replace(/\\n$/, '')"
+    page.same("the letters are those of the text", page.do(letters).split("\n")[1], page.do(TEXT).split("\n")[1])
+    page.same("contrast of colours", page.do(CONTRAST), [])
+    page.browser.shoot(SHOTS / f"{page.browser.name}-ink.png")
+    page.set("text", "".join(f"frame {it} 0 60\n" for it in range(500)))
+    page.do("at('text').scrollTop = 4000")
+    time.sleep(0.2)
+    page.same("scrolled", page.do("const number = document.querySelector('#editor .numbers').textContent.split('\\n')[0]; return document.querySelector('#editor .letters div').textContent === `frame ${number - 1} 0 60`"), True)
+    page.set("text", f"frame 1 0 60\n# {200 * 'long '}\n")
+    page.do("at('text').scrollLeft = 133")
+    time.sleep(0.2)
+    beside = page.do("const [one, other] = [at('text'), document.querySelector('#editor .letters')].map((it) => it.getBoundingClientRect()); return [other.left - one.left + 133 - at('text').clientLeft, other.top - one.top]")
+    page.same(f"the letters lie where those of the text area do, but for {beside} pixels", [abs(it) < 0.1 for it in beside], [True, True])
+    page.set("text", "frame 1 0 60\n")
+    wait_for(page.browser, FRESH, 3)
+    page.do("at('text').focus(); at('text').select()")
+    page.browser.shoot(SHOTS / f"{page.browser.name}-selected.png")
+    for job, example, lines in (("script", "first.script", WRONG_COMMANDS + WRONG_LINES), ("streams", "planned.streams", WRONG_STREAMS)):
+        page.choose(example)
+        for line in lines:
+            text = f"{line}\n"
+            wanted = marked_word(program(job, "--explain", text=text.encode())[2])
+            page.set("text", text)
+            page.run()
+            page.same(f"underlined in {line}", page.do(ODD), [line if wanted is None else wanted])
+    page.choose("first.script")
 
 
 STALE = "return ['view', 'results'].map((it) => at(it).classList.contains('stale'))"
@@ -2026,6 +2206,52 @@ def try_stop(page):
     page.same("drawn after a stop", page.text("status")[:4], "Done")
 
 
+# Drops a capture of 300,000 records.
+LONG_CAPTURE = """const count = 300000; const octets = new Uint8Array(24 + count * 80); const view = new DataView(octets.buffer);
+    [0xa1b23c4d, 0x00040002, 0, 0, 65535, 1].forEach((it, place) => view.setUint32(4 * place, it, true));
+    for (let i = 0; i < count; i += 1) [Math.floor(i / 200000), (i * 5000) % 1e9, 64, 64].forEach((it, place) => view.setUint32(24 + 80 * i + 4 * place, it, true));
+    const data = new DataTransfer(); data.items.add(new File([octets], 'long.pcap'));
+    document.body.dispatchEvent(new DragEvent('drop', { dataTransfer: data, bubbles: true, cancelable: true }))"""
+LONGEST = 200  # milliseconds of a task of the page: no key is heard meanwhile
+
+
+def try_blocks(page):
+    """A file of 400,000 frames, a long capture and a long table are taken and drawn without a long task: by the time of the processor, which Chromium tells."""
+    if not isinstance(page.browser, Chromium):
+        return
+    page.choose("first.script")
+    page.do("""const frames = Array.from({ length: 400000 }, (_, i) => `frame ${i} ${i % 8} ${60 + (i * 31) % 600}\\nclock ${(i + 1) * 5000000}\\n`).join('');
+        window.long = `tc qdisc replace dev eth0 root taprio num_tc 8 map 0 1 2 3 4 5 6 7 base-time 0 sched-entry S 0f 100000 sched-entry S f0 100000\\n${frames}`""")
+    page.browser.trace()
+    page.do("""const data = new DataTransfer(); data.items.add(new File([window.long], 'long.script'));
+        document.body.dispatchEvent(new DragEvent('drop', { dataTransfer: data, bubbles: true, cancelable: true }))""")
+    wait_for(page.browser, "return document.getElementById('frames-name').textContent === 'Frames (400,000)'")
+    page.settle()
+    longest = page.browser.longest()
+    page.same(f"{longest:.0f} ms, a file of 400,000 frames", longest <= LONGEST, True)
+    page.same("all are there", page.text("verdict")[:32], "399992 of 400,000 frames sent, 8")
+    point = "const r = at('frame').getBoundingClientRect(); at('frame').dispatchEvent(new PointerEvent('pointermove', { clientX: r.right - 60, clientY: r.top + 50, bubbles: true }))"
+    for what, script in (("a zoom", "document.querySelector('[data-step=nearer]').click()"), ("a look at the last frames", point)):
+        page.browser.trace()
+        page.do(script)
+        time.sleep(0.3)
+        page.settle()
+        longest = page.browser.longest()
+        page.same(f"{longest:.0f} ms, {what}", longest <= LONGEST, True)
+    for what, example, begin in (
+        ("a capture of 300,000 records", "machine.pcap", LONG_CAPTURE),
+        ("a table of 300,000 frames", "planned.streams", "at('text').value = 'stream 1 7 60 5us 0us 300000\\n'; at('text').dispatchEvent(new Event('input', { bubbles: true })); at('run').click()"),
+    ):
+        page.choose(example)
+        page.browser.trace()
+        page.do(begin)
+        wait_for(page.browser, "return document.getElementById('frames-name').textContent === 'Frames (300,000)'")
+        page.settle()
+        longest = page.browser.longest()
+        page.same(f"{longest:.0f} ms, {what}", longest <= LONGEST, True)
+    page.forget()
+
+
 NAMELESS = """return [...document.querySelectorAll('input, select, textarea, button, [tabindex]')]
     .filter((it) => !(it.labels?.length || it.textContent.trim() || it.getAttribute('aria-label'))).map((it) => it.id)"""
 REACHED = """const all = [...document.querySelectorAll('a[href], input, select, textarea, button, [tabindex]')];
@@ -2114,8 +2340,8 @@ def try_looks(page):
     shoot(page, "replay")
 
 
-TRIES = [try_examples, try_replay, try_typing, try_options, try_worked, try_faults, try_refused, try_zoom, try_keys, try_micros, try_moments, try_frames, try_reasons, try_why, try_drops, try_tips, try_marks, try_pictures, try_rows, try_shades, try_whole, try_bounds, try_paths, try_timing, try_sharing, try_linux, try_compare, try_gates, try_imports,
-         try_story, try_tabs, try_kept, try_long, try_files, try_forgotten, try_dates, try_stale, try_live, try_link, try_stop, try_access, try_screens, try_sizes, try_looks]
+TRIES = [try_weight, try_examples, try_replay, try_typing, try_options, try_worked, try_faults, try_refused, try_zoom, try_keys, try_micros, try_moments, try_frames, try_reasons, try_why, try_drops, try_tips, try_marks, try_pictures, try_rows, try_shades, try_whole, try_bounds, try_paths, try_timing, try_sharing, try_linux, try_compare, try_gates, try_imports, try_pcapng, try_changed, try_ink,
+         try_story, try_tabs, try_kept, try_long, try_files, try_forgotten, try_dates, try_stale, try_live, try_link, try_stop, try_blocks, try_access, try_screens, try_sizes, try_looks]
 
 
 def try_page(kind, address, server, tries=TRIES):
@@ -2182,17 +2408,19 @@ def try_lacking(kind, address):
 
 
 def try_broken(kind):
-    """What a page says whose module does not compile: one in which a part of it is another."""
+    """What a page says whose module does not compile, or can't be unpacked: one in which a part of it is another."""
     text = PAGE.read_text(encoding="utf-8")
-    module = re.search(r'id="page-wasm">([^<]+)<', text)[1]
-    with tempfile.TemporaryDirectory() as downloads:
-        place = pathlib.Path(downloads) / "broken.html"
-        place.write_text(text.replace(module, module[:1000] + "A" * 4000 + module[5000:]), encoding="utf-8")
-        browser = kind(downloads)
-        try:
-            refuses(browser, place.as_uri(), "broken", r"The port's module does not compile in this browser \(.*\)\. " + re.escape(INSTEAD))
-        finally:
-            browser.close()
+    packed_text = re.search(r'id="page-wasm">([^<]+)<', text)[1]
+    module = module_in(text)
+    for broken in (packed_module(module[:1000] + bytes(4000) + module[5000:]), packed_text[:1000] + "A" * 4000 + packed_text[5000:]):
+        with tempfile.TemporaryDirectory() as downloads:
+            place = pathlib.Path(downloads) / "broken.html"
+            place.write_text(text.replace(packed_text, broken), encoding="utf-8")
+            browser = kind(downloads)
+            try:
+                refuses(browser, place.as_uri(), "broken", r"The port's module does not compile in this browser \(.*\)\. " + re.escape(INSTEAD))
+            finally:
+                browser.close()
 
 
 def try_dark_firefox(address):

@@ -1,4 +1,5 @@
 // Why a frame waits: by the schedules of its run, exactly, and by the frames that are on the wire meanwhile.
+import { sortedOf } from "./frames.js";
 
 const MOST_PARTS = 200; // parts of a wait that are told apart
 const MOST_STEPS = 20_000; // looks at an entry or at a command for one wait
@@ -124,8 +125,7 @@ export const sentByStart = (frames) => frames.filter((it) => it.start !== null).
  * @param {object[]} wire those that were sent, by their starts
  */
 export function runOf(frames, history, rate, end, wire = sentByStart(frames)) {
-  const queues = Array.from({ length: 8 }, () => []);
-  for (const it of frames) if (it.start !== null || it.fate === "left") queues[it.class].push(it);
+  const { queues } = sortedOf(frames);
   const events = (history ?? []).flatMap((it) => [it.lead, it.change]).sort((one, other) => (one < other ? -1 : 1));
   return { wire, queues, history, events, octet: 8_000_000n / BigInt(rate), end, steps: 0 };
 }

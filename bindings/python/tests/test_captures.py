@@ -7,6 +7,7 @@ import pathlib
 import struct
 import sys
 import tempfile
+import tomllib
 import unittest
 import warnings
 from unittest import mock
@@ -15,6 +16,7 @@ import support
 import taprio
 
 FRAMES = [bytes([2, 0, 0, 0, 0, number]) + bytes(range(40)) for number in range(3)]
+CASES = support.ROOT / "tests" / "imports" / "pcapng.toml"
 MOMENTS = [1_764_189_000_123_456_789, 1_764_189_000_123_456_790, 1_764_189_001_000_000_001]
 
 
@@ -117,6 +119,19 @@ class Captures(unittest.TestCase):
             warnings.simplefilter("ignore")
             self.check_pcapng()
             self.assertEqual(self.read(pcapng() + pcapng(">", 6)), self.read(pcapng()) + self.read(pcapng(">", 6))[24:])
+
+    @unittest.skipUnless(importlib.util.find_spec("dpkt"), "dpkt isn't installed")
+    @unittest.skipUnless(CASES.exists(), "tests/imports lies in the repository")
+    def test_pcapng_as_the_page_reads_it(self):
+        for case in tomllib.loads(CASES.read_text(encoding="utf-8"))["case"]:
+            octets = bytes.fromhex(case["input"])
+            with self.subTest(case["name"]):
+                if "fault" not in case:
+                    self.assertEqual(self.read(octets), bytes.fromhex(case["classic"]))
+                    continue
+                with self.assertRaises(taprio.BadCapture) as raised:
+                    self.read(octets)
+                self.assertIn(case["fault"], str(raised.exception))
 
 
 if __name__ == "__main__":
