@@ -197,3 +197,19 @@ def at_limits(check, sizes):
 
 for name, (check, least, greatest, others) in SIZES.items():
     globals()[f"case_{name}_from_the_least_to_the_greatest"] = at_limits(check, [least, *others, greatest])
+
+
+# How many octets a table may have that is planned for.
+MOST_PLANNED = 16_777_216
+
+
+def case_a_table_of_the_most_octets_is_planned(program):
+    """A table of 16,777,216 octets, most of them comments, is planned as it is without them; one octet more is too many, and nothing is written."""
+    stream = b"stream 1 7 60 1ms 0ns 1 deadline 1ms\n"
+    comment = b"#" + b"x" * 998 + b"\n"
+    lines, rest = divmod(MOST_PLANNED - len(stream), len(comment))
+    table = stream + comment * lines + (b"#" * (rest - 1) + b"\n" if rest else b"")
+    assert len(table) == MOST_PLANNED
+    wanted, most, more = (run(program, ["plan", "table"], b"", {"table": text}) for text in (stream, table, table + b"\n"))
+    assert (wanted.status, most.status, most.output) == (0, 0, wanted.output), (wanted, most)
+    assert (more.status, more.output, more.errors) == (3, b"", b"taprio_port: plan: the table has more than 16777216 octets\n")

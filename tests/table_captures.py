@@ -82,6 +82,8 @@ def rows_of_faults():
         Row("a bad value comes first, and no file is made", [*TO_FILE, "--from", "x"], TWO, errors=b"taprio_port: bad value of --from\n", status=2, written={"out": None}),
         Row("a file in no folder", ["streams", "--capture", "no/out"], TWO, errors=b"taprio_port: cannot open no/out\n", status=4),
         Row("a script doesn't go with a capture", [*TO_FILE, "--with", "script"], TWO, {"script": b""}, errors=None, errors_begin=b"error: ", status=2, written={"out": None}),
+        Row("a malformed line, with a hint", [*TO_ANSWERS, "--explain"], b"strem 1 0 60 1us 0us 1\n", status=3, errors=b"taprio_port: table line 1: UnknownLine\n"
+            b"    strem 1 0 60 1us 0us 1\n    ^^^^^\n    a line of a table begins with stream; perhaps: stream\n"),
         Row("two streams that share ids, in a strict run", [*TO_FILE, "--strict"], b"stream 1 0 60 1us 0us 2\nstream 2 0 60 1us 9us 1\n", errors=None,
             errors_begin=b"taprio_port: warning: table lines ", status=1, written={"out": of([(0, frame(1, 0, 60)), (1000, frame(2, 0, 60)), (9000, frame(2, 0, 60))])}),
     ]

@@ -231,6 +231,11 @@ class Paths:
         for name in ("line", "vehicle"):
             self.assertEqual(self.port.paths(octets(f"{name}.network"), octets(f"{name}.schedules")), octets(f"{name}.paths"))
 
+    def test_paths_of_many_octets(self):
+        """Comments of 100,000 octets before a network and its schedules change nothing."""
+        comments = f"#{'x' * 98}\n" * 1000
+        self.assertEqual(self.port.paths(comments + NETWORK, comments + PORTS), self.port.paths(NETWORK, PORTS))
+
     def test_what_is_asked_of_paths(self):
         """Silent classes and leftovers, alone and together."""
         low, both = "stream 2 0 60 1ms any 1\n", "stream 2 0 60 1ms any 1\nstream 1 1 60 1ms any 1\n"
