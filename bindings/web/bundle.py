@@ -76,6 +76,12 @@ def networks(folder):
              "beside": path.with_suffix(".network").read_text(encoding="utf-8")} for path in sorted(folder.glob("*.paths"))]
 
 
+def plans(folder):
+    """The examples of plans: the streams of the delay bounds, and the networks of the paths."""
+    given = [path.with_suffix(".streams") for path in folder.glob("*.bounds")] + [path.with_suffix(".network") for path in folder.glob("*.paths")]
+    return [{"name": f"{path.stem}.plan", "job": "plan", "text": path.read_text(encoding="utf-8")} for path in sorted(given) if path.exists()]
+
+
 def examples(folder):
     """The examples by name: what kind each is, its text, its options, and for a table the script that goes among its frames. Schedules of a
     network are those of its paths."""
@@ -89,7 +95,7 @@ def examples(folder):
         if path.suffix == ".streams" and beside.exists():
             entry["beside"] = beside.read_text(encoding="utf-8")
         found.append(entry | given.get(path.name, {}))
-    return found + bounded(folder) + networks(folder) + captures(folder)
+    return found + bounded(folder) + networks(folder) + plans(folder) + captures(folder)
 
 
 def data(value):

@@ -30,8 +30,8 @@ export const hasStreams = (text) => STREAM_LINE.test(text);
 
 /** What kind of text it is, by its lines. */
 export function jobOf(text, now) {
-  if (isNetwork(text)) return "paths";
-  if (hasStreams(text)) return ["bounds", "paths"].includes(now) ? now : "streams";
+  if (isNetwork(text)) return now === "plan" ? now : "paths";
+  if (hasStreams(text)) return ["bounds", "paths", "plan"].includes(now) ? now : "streams";
   if (/^[ \t]*(?:frame|clock|query|count)\b/m.test(text)) return now === "replay" && !/^[ \t]*frame\b/m.test(text) ? "replay" : "script";
   return ["check", "bounds", "paths", "replay", "script"].includes(now) ? now : "check";
 }

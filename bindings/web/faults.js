@@ -37,6 +37,10 @@ const WANTED = {
   room: "a whole number from 1 to 4096",
   frames: "a whole number from 1 to 1000000000",
   silent: "classes from 0 to 7, each once, with commas between them, such as 6,7",
+  cycle: "whole nanoseconds, from 1 to 4294967295, such as 1 ms",
+  entries: "a whole number from 1 to 256",
+  "least-interval": "whole nanoseconds, from 0 to 4294967295, such as 2 us",
+  "base-time": "whole nanoseconds, from 0 to 9223372036854775807, such as 1 s",
   seed: "a whole number from 0 to 18446744073709551615, where frames aren't to come late",
   until: MOMENT,
   from: `${MOMENT}; of a picture 9223372036854774807000 ps`,
@@ -52,7 +56,7 @@ const WANTED = {
  */
 export function explain(text) {
   const said = text.trim().replace(/^taprio_port: /, "");
-  const [, option] = /^bad value of --(\w+)$/.exec(said) ?? [];
+  const [, option] = /^bad value of --([\w-]+)$/.exec(said) ?? [];
   if (WANTED[option]) return { text: `${said}: wanted is ${WANTED[option]}.`, line: null, source: null };
   const [, ofCapture] = /^capture (?:header|record \d+): (\w+)$/.exec(said) ?? [];
   if (MEANINGS[ofCapture]) return { text: `${said}, ${MEANINGS[ofCapture]}`, line: null, source: null };

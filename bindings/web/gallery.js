@@ -12,5 +12,7 @@ export const STEPS = [
   ["drive.bounds", "A deadline that holds for ever", "Not for a run: for ever, whatever the other classes send. Each stream against its deadline."],
   ["drive_short.bounds", "One that fails after 63 ms", "A window a little too short. A run of 60 ms shows nothing of it; the first frame that is lost is told."],
   ["line.paths", "Through three switches", "From talker to listener, for ever: each switch has its own schedule, and begins its cycle a little later than the one before."],
+  ["drive.plan", "A schedule is found", "Only the streams are given, with their deadlines. Open the schedule with them, and move its windows by hand: it is judged at each step."],
+  ["line.plan", "One for each switch", "The same for a network: a schedule for each port, each with its part of every deadline."],
   ["machine.pcap", "A capture", "Recorded frames through a schedule: when does each leave? The capture of what leaves can be saved."],
 ];

@@ -1,9 +1,10 @@
 // The options of the page, as the values that a job is given and as the words of a link.
 import { wordOfMoment } from "./moments.js";
 
-const NUMBERS = ["rate", "mtu", "room", "frames"];
-const MOMENTS = ["until", "from", "to"];
-const FLAGS = ["summary", "shares", "windows", "late", "slack", "why", "leftovers"];
+const NUMBERS = ["rate", "mtu", "room", "frames", "entries"];
+const NANOSECONDS = { cycle: "cycle", least: "least-interval", base: "base-time" }; // the program's words for times that are whole nanoseconds
+const MOMENTS = ["until", "from", "to", ...Object.keys(NANOSECONDS)];
+const FLAGS = ["summary", "shares", "windows", "late", "slack", "why", "leftovers", "share"];
 const SEED = "seed";
 const SILENT = "silent";
 const TEXTS = [...NUMBERS, ...MOMENTS, SEED, SILENT]; // the options that are typed, or chosen of a list
@@ -15,6 +16,7 @@ const USED = {
   replay: ["rate", "mtu", "room", "until", "summary"],
   bounds: ["rate", "mtu", "room", "frames", "slack", "why", "silent", "leftovers"],
   paths: ["rate", "mtu", "room", "frames", "silent", "leftovers"],
+  plan: ["rate", "mtu", "room", "cycle", "entries", "least", "base", "share"],
   check: ["rate", "shares", "windows"],
   streams: ["late", "seed"],
 };
@@ -25,7 +27,7 @@ export class BadOption extends Error {
    * @param {string} field the id of its input
    * @param {string} words what is said of it
    */
-  constructor(field, words = `taprio_port: bad value of --${field}`) {
+  constructor(field, words = `taprio_port: bad value of --${NANOSECONDS[field] ?? field}`) {
     super(words);
     this.field = field;
   }
@@ -75,10 +77,16 @@ export async function momentsIn(names, read) {
   });
 }
 
+// A time that stands in a field, in nanoseconds, or null; a cycle is longer than none.
+function nanosecondsOf(name, time) {
+  if (time !== null && (time % 1000n || (name === "cycle" && time === 0n))) throw new BadOption(name);
+  return time === null ? null : time / 1000n;
+}
+
 // The values where nothing is said.
 const standing = () => ({
-  rate: 1000, mtu: 1500, room: 128, frames: 1000000, width: 1200, until: null, from: null, to: null,
-  summary: false, shares: false, windows: false, late: false, slack: false, why: false, leftovers: false, seed: null, silent: null,
+  rate: 1000, mtu: 1500, room: 128, frames: 1000000, entries: 256, width: 1200, until: null, from: null, to: null, cycle: null, least: null, base: null,
+  summary: false, shares: false, windows: false, late: false, slack: false, why: false, leftovers: false, share: false, seed: null, silent: null,
 });
 
 // What stands at first in a field with a text.
@@ -101,7 +109,7 @@ export async function valuesFor(job, read) {
   }
   const names = USED[job].filter((name) => MOMENTS.includes(name));
   const moments = await momentsIn(names, read);
-  for (const [place, name] of names.entries()) values[name] = moments[place];
+  for (const [place, name] of names.entries()) values[name] = name in NANOSECONDS ? nanosecondsOf(name, moments[place]) : moments[place];
   return values;
 }
 

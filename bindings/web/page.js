@@ -16,6 +16,7 @@ import { runOf, whySaid } from "./why.js";
 import { timesOf } from "./shades.js";
 import { boundsIn, boundsVerdict, countedFrom, drawBounds, latestOf } from "./bounds.js";
 import { pathsIn, pathsVerdict, valuesOfPort } from "./paths.js";
+import { planVerdict, schedulesIn, valuesOfPlanned } from "./plan.js";
 import { commandsIn, differencesByClass, differencesByStream, windowOfBoth, withSchedule } from "./compare.js";
 import { dateOf, endOfRun, notYet, originOf, setClock, windowOf } from "./happens.js";
 import { count } from "./words.js";
@@ -87,14 +88,15 @@ let notTaken = []; // the commands of the last run that were not taken: their li
 
 const COMPARED = ["script", "bounds", "paths", "streams", "replay"]; // the jobs of which another schedule is run, too
 const JUDGED = ["bounds", "paths"]; // the jobs that judge streams for ever, under schedules that stand alone in the text
-const ALONE = ["check", "paths"]; // the jobs of which a schedule is drawn alone
-const NAMES = { script: "Script", bounds: "Schedules", paths: "Schedules of the ports", check: "Schedules", streams: "Table of streams", replay: "Script of the replay" };
+const ALONE = ["check", "paths", "plan"]; // the jobs of which a schedule is drawn alone
+const NAMES = { script: "Script", bounds: "Schedules", paths: "Schedules of the ports", plan: "Table of streams, or network", check: "Schedules", streams: "Table of streams", replay: "Script of the replay" };
 const BESIDE = { streams: "Script whose lines go among the frames", bounds: "Table of streams", paths: "Network" };
 const SECOND = { streams: "script", bounds: "table", paths: "network" }; // what faults call that text
 const HINTS = {
   script: "Lines: clock M, frame ID PRIORITY LEN [tagged], query, count CLASS, tc qdisc .. taprio ..; moments in picoseconds.",
   bounds: "Lines: tc qdisc .. taprio ..; below: stream FIRST_ID PRIORITY LEN PERIOD OFFSET COUNT [tagged] [shortest LEN] [jitter TIME] [deadline TIME]; OFFSET may be any.",
   paths: "Lines: tc qdisc .. taprio .., one for each port, whose name is behind dev; below: link FROM TO TIME [TIME], clocks TIME, port NAME [rate MBPS] [mtu OCTETS] [room FRAMES], stream FIRST_ID PRIORITY LEN PERIOD OFFSET COUNT [..] via NAME NAME ..",
+  plan: "Lines: stream FIRST_ID PRIORITY LEN PERIOD OFFSET COUNT [tagged] [shortest LEN] [jitter TIME] [deadline TIME] [via NAME NAME ..]; of a network also link, clocks and port.",
   check: "Lines: tc qdisc .. taprio ..; each is answered by the classes that it keeps apart.",
   replay: "Lines of a script, without frame: the frames are the records of the capture.",
   streams: "Lines: stream FIRST_ID PRIORITY LEN PERIOD OFFSET COUNT [tagged] [shortest LEN] [jitter TIME]; times such as 250us, and OFFSET may be any.",
@@ -125,6 +127,7 @@ const WINDOW_COLUMNS = [
   ["schedule", "Schedule", "number"], ["class", "Class", "number"], ["open", "Longest open", "time"], ["closed", "Longest closed", "time"],
   ["share", "Share", "text"], ["frame", "Longest frame", "number"], ["wait", "Its longest wait", "time"],
 ];
+const PLAN_COLUMNS = [["port", "Port", "text"], ...WINDOW_COLUMNS.slice(1)];
 const BOUND_COLUMNS = [
   ["id", "Stream", "number"], ["class", "Class", "number"], ["least", "Least wait", "time"], ["greatest", "Greatest wait", "time"],
   ["first", "Earliest end", "time"], ["last", "Latest end", "time"], ["deadline", "Deadline", "time"], ["verdict", "Verdict", "text"], ["told", "", "text"],
@@ -154,6 +157,7 @@ const tables = {
   streams: tableOf("classes", CLASS_COLUMNS, "class"),
   check: tableOf("classes", WINDOW_COLUMNS, "schedule", "class"),
   paths: tableOf("classes", PATH_COLUMNS, "id"),
+  plan: tableOf("classes", PLAN_COLUMNS, "port", "class"),
 };
 const hopTable = tableOf("hops", HOP_COLUMNS, "id", "port");
 const portTable = tableOf("ports", PORT_COLUMNS, "port", "class");
@@ -468,14 +472,15 @@ function showAnswers(name, output, text) {
   at("cut").hidden = end === text.length;
   at("cut").textContent = `The first ${end.toLocaleString("en")} of ${text.length.toLocaleString("en")} characters are shown; saved are all.`;
   addressOf(at("save-answers"), output, "text/plain");
-  at("save-answers").download = name === "streams" ? "traffic.script" : "answers.txt";
-  at("take").hidden = name !== "streams" || text === "";
+  at("save-answers").download = { streams: "traffic.script", plan: "plan.schedules" }[name] ?? "answers.txt";
+  at("take").hidden = name === "plan" ? !ran.schedules.length : name !== "streams" || text === "";
+  at("take").textContent = name === "plan" ? "Open it with its streams" : "Open it as a script";
 }
 
 // Lists the schedule commands that weren't taken, each as a button to its line.
 function showRefused(name, text, answers) {
   // (a port of a network that refuses its schedule ends the run, and the answers are not in the order of the commands)
-  const refused = ["streams", "paths"].includes(name) ? [] : refusedCommands(text, answers);
+  const refused = ["streams", "paths", "plan"].includes(name) ? [] : refusedCommands(text, answers);
   const items = refused.map(({ line: number, answer }) => {
     const button = document.createElement("button");
     button.type = "button";
@@ -509,7 +514,7 @@ function windowsIn(answers) {
 }
 
 // The rows of the table of numbers that a run comes to.
-const numbersOf = (run) => (run.job === "check" ? run.windows : JUDGED.includes(run.job) ? run.paths?.paths ?? run.bounds[chosen()]?.streams ?? [] : run.classes);
+const numbersOf = (run) => (["check", "plan"].includes(run.job) ? run.windows : JUDGED.includes(run.job) ? run.paths?.paths ?? run.bounds[chosen()]?.streams ?? [] : run.classes);
 
 function showTables() {
   const rows = numbersOf(ran);
@@ -622,12 +627,15 @@ function showFault(text, input = null) {
 }
 
 function sayStatus({ status, lines, time }) {
-  const names = { 0: "Done", 2: "A value is refused", 3: "The input has a fault", 4: "Out of memory" };
+  const names = { 0: "Done", 1: "None is found", 2: "A value is refused", 3: "The input has a fault", 4: "Out of memory" };
   clearTimeout(slow);
   const after = status === 3 ? " before it" : "";
   ran.said = `${names[status]}: ${count(lines, "line")}${after}, in ${time.toFixed(time < 10 ? 1 : 0)} ms (status ${status}).`;
   say(ran.said, status === 0);
 }
+
+// Whether a job has done what it does: a plan, too, that finds nothing.
+const isAnswered = ({ status }) => status === 0 || status === 1;
 
 // What a check comes to: the classes that its one schedule keeps apart, or how many there are.
 function checkVerdict(answers) {
@@ -677,7 +685,7 @@ function laterSaid() {
 }
 
 function sayVerdict(answers) {
-  const said = { script: runSaid, replay: runSaid, streams: () => streamsSaid(answers), bounds: boundsSaid, paths: pathsSaid, check: () => checkVerdict(answers) }[ran.job]();
+  const said = { script: runSaid, replay: runSaid, streams: () => streamsSaid(answers), bounds: boundsSaid, paths: pathsSaid, plan: () => planVerdict(ran.text, answers), check: () => checkVerdict(answers) }[ran.job]();
   const later = laterSaid();
   const change = ran.changes.length && !later && ["script", "replay"].includes(ran.job) ? ` In force from ${writeMoment(ran.changes[0].change)}.` : "";
   at("verdict").textContent = said + later + (ran.frames.length ? "" : change);
@@ -753,6 +761,7 @@ async function takeSchedule(mine) {
   const { number, name, line: text } = chosenSchedule() ?? {};
   if (number === undefined) return;
   if (ran.job === "paths") ran.port = valuesOfPort(ran.besideText, name, ran.values);
+  if (ran.job === "plan") ran.port = valuesOfPlanned(ran.text, name, ran.values);
   const told = await ask(mine, { job: "script", text: `${text}\n`, beside: new Uint8Array(), values: { ...ran.values, ...ran.port, until: null, summary: false } });
   if (!told) return;
   await takeRun(mine, ran, `${text}\n`, null, new TextDecoder().decode(told.output));
@@ -800,13 +809,24 @@ async function takeAnswers(mine, run, answers) {
   else if (name === "streams") await takeScript(mine, run, answers);
   else if (name === "bounds") run.bounds = boundsIn(answers);
   else if (name === "paths") takePaths(run, answers);
+  else if (name === "plan") await takePlan(mine, answers);
   else if (name === "check") await takeCheck(mine, answers);
 }
 
 // What paths tell, and the schedules of the ports by their names.
 function takePaths(run, answers) {
   run.paths = pathsIn(answers);
-  run.schedules = readScript(run.text).commands.map(({ line: number, words }) => ({ number, name: words[words.indexOf("dev") + 1], line: words.join(" ") }));
+  run.schedules = schedulesIn(run.text);
+}
+
+// The schedules of a plan, and the windows of each port.
+async function takePlan(mine, answers) {
+  ran.schedules = schedulesIn(answers);
+  for (const { name, line: text } of ran.schedules) {
+    const told = await checkWindows(mine, `${text}\n`, { ...ran.values, ...valuesOfPlanned(ran.text, name, ran.values) });
+    if (!told) return;
+    ran.windows.push(...windowsIn(new TextDecoder().decode(told.output)).map((it) => ({ ...it, port: name })));
+  }
 }
 
 async function takeCheck(mine, answers) {
@@ -817,7 +837,7 @@ async function takeCheck(mine, answers) {
 }
 
 // What a check tells of schedules, with their windows.
-const checkWindows = (mine, text) => ask(mine, { job: "check", text, beside: new Uint8Array(), values: { ...ran.values, windows: true } });
+const checkWindows = (mine, text, values = ran.values) => ask(mine, { job: "check", text, beside: new Uint8Array(), values: { ...values, windows: true } });
 
 // What the answers of what stands in the page come to, and which of its schedules is shown.
 async function takeOwn(mine, answers) {
@@ -842,7 +862,7 @@ async function work(mine, typed) {
   const told = await ask(mine, { job: next.job, text: next.text, beside: next.beside, values: next.values });
   if (!told) return;
   clearFault();
-  if (staysShown(typed) && told.status !== 0) {
+  if (staysShown(typed) && !isAnswered(told)) {
     keepEarlier();
     showFault(told.fault);
     return;
@@ -857,15 +877,15 @@ async function work(mine, typed) {
   // (of a long script the picture is drawn first, and its frames are found then)
   const late = ran.job === "script" && told.status === 0 && answers.length > LONG;
   ran.since = late ? null : sinceOf(before, next);
-  ran.isWhole = told.status === 0;
+  ran.isWhole = isAnswered(told);
   another = false;
   if (late) ran.source = ran.text;
-  else if (told.status === 0) {
+  else if (isAnswered(told)) {
     await takeOwn(mine, answers);
     if (mine === turn) await takeOther(mine, typed ? before : null);
   }
   if (!(await showRun(mine, told, answers, late))) return;
-  if (told.status !== 0) {
+  if (!isAnswered(told)) {
     showFault(told.fault);
     hidePicture(["script", "replay", "check"].includes(ran.job) ? "No picture: the run has a fault." : "");
     return;
@@ -904,7 +924,7 @@ function showRun(mine, told, answers, late) {
     () => {
       sayStatus(told);
       clearVerdict(late ? LOOKING : "");
-      if (!late && told.status === 0) sayVerdict(answers);
+      if (!late && isAnswered(told)) sayVerdict(answers);
     },
     () => sortedOf(ran.frames), // (the picture looks them up there)
   );
@@ -1558,7 +1578,7 @@ function fits(name) {
   const words = editor.text;
   if (!words.trim()) return false;
   if (name === "script") return !hasStreams(words);
-  if (name === "streams") return hasStreams(words);
+  if (["streams", "plan"].includes(name)) return hasStreams(words);
   if (name === "replay") return capture.length > 0 && !FRAME_LINE.test(words);
   if (SCRIPT_LINE.test(words)) return false;
   return name === "check" || (hasStreams(beside.text) && (name === "paths" || !isNetwork(beside.text)));
@@ -1567,6 +1587,8 @@ function fits(name) {
 // Another job by its tab: one's own text goes with it where it can, and else an example comes.
 function chooseJob() {
   const name = job();
+  // (a plan is made for the streams that were judged)
+  if (name === "plan" && at("example").value === OWN && JUDGED.includes(jobShown) && hasStreams(beside.text)) return goOnWith({ job: name, text: beside.text });
   if (at("example").value === OWN && fits(name)) {
     setJob(name);
     changed = true;
@@ -1677,15 +1699,20 @@ async function openLink() {
   return true;
 }
 
-// Goes on with the script that a table of streams made.
-async function takeAsScript() {
-  const text = ran.answers;
+// Goes on with another input, that is made of this one: this one stays among the kept ones.
+async function goOnWith(state) {
   const { rate, mtu, room } = wordsOfOptions();
-  const its = other.text;
   notePast();
   showOwn({});
   changed = true;
-  await load({ job: "script", rate, mtu, room, text, other: its });
+  await load({ rate, mtu, room, ...state });
+}
+
+// Goes on with the script that a table of streams made, or with a plan and its streams, whose gates are moved by hand.
+function takeAnswered() {
+  if (ran.job === "streams") return goOnWith({ job: "script", text: ran.answers, other: other.text });
+  gatesChosen = true;
+  return goOnWith({ job: isNetwork(ran.text) ? "paths" : "bounds", text: ran.answers, beside: ran.text });
 }
 
 // A file may be dropped or pasted anywhere, and the page shows so while it is dragged; text that is dragged stays with the browser.
@@ -1743,7 +1770,7 @@ function listenToInput() {
   at("file").addEventListener("change", takeChosen);
   at("stop").addEventListener("click", () => runner.stop());
   at("link").addEventListener("click", makeLink);
-  at("take").addEventListener("click", takeAsScript);
+  at("take").addEventListener("click", takeAnswered);
   at("compare").addEventListener("click", openCompare);
   at("copy-schedule").addEventListener("click", copySchedule);
   at("end-compare").addEventListener("click", endCompare);
@@ -1759,7 +1786,7 @@ function listenToResults() {
   at("which").addEventListener("change", () => begin(async (mine) => {
     forgetTime();
     if (ALONE.includes(ran.job)) {
-      strip.showLine(chosenSchedule()?.number);
+      if (ran.job !== "plan") strip.showLine(chosenSchedule()?.number);
       await takeSchedule(mine);
     }
     fillOrigins(ran);

@@ -1,12 +1,14 @@
 // Calls the port's WebAssembly module, as bindings/c/taprio.h declares it. Only this file knows where its values lie, and where its heap is.
 
 /** The jobs that the module does, by the names of the program's. */
-export const JOBS = ["script", "draw", "check", "streams", "replay", "bounds", "paths", "frames"];
+export const JOBS = ["script", "draw", "check", "streams", "replay", "bounds", "paths", "plan", "frames"];
 
 const BLOCK = 16; // octets of the least block of the heap, and of what stands before each block
 const PAGE = 65536; // octets of a page of the module's memory
 const PORT_VALUES = 40; // octets of struct taprio_port_values
 const PICTURE_VALUES = 48; // octets of struct taprio_picture_values
+const PLAN_VALUES = 32; // octets of struct taprio_plan_values
+const DEVICE = new TextEncoder().encode("eth0"); // the device of a plan, where the table names no port
 const RAN = 32; // octets of struct taprio_replay_ran, the longer one
 const MOMENT = 24; // octets of struct taprio_moment_value
 const NO_ROOM = 5; // the status where a slice has too little room
@@ -115,6 +117,13 @@ function putPicture(view, at, values) {
   view.setUint32(at + 44, 0, true);
 }
 
+// Writes struct taprio_plan_values: 0 is a cycle by the periods.
+function putPlan(view, at, { cycle, least, base, entries, share }) {
+  [cycle, least, base].forEach((time, place) => view.setBigUint64(at + 8 * place, time ?? 0n, true));
+  view.setUint32(at + 24, entries, true);
+  view.setUint32(at + 28, share ? 1 : 0, true);
+}
+
 // The frames of a script; where there is a table of streams, with the stream of each.
 const framesCall = ({ beside }) =>
   beside.length
@@ -135,6 +144,7 @@ const askedOf = ({ slack, why, leftovers, silent }) => ((silent ?? 0) << 8) | (s
 const CALLS = {
   script: ["taprio_run", (at, { input }) => [at.port, at.input, input.length]],
   draw: ["taprio_draw", (at, { input }) => [at.port, at.picture, at.input, input.length]],
+  plan: ["taprio_plan", (at, { input }) => [at.port, at.plan, at.device, DEVICE.length, at.input, input.length]],
   replay: ["taprio_replay", (at, { input, beside }) => [at.port, at.input, input.length, at.beside, beside.length]],
 };
 
@@ -178,6 +188,8 @@ const lengthsOf = ({ job, input, beside }, room) => ({
   fault: FAULT_ROOM,
   port: PORT_VALUES,
   picture: PICTURE_VALUES,
+  plan: PLAN_VALUES,
+  device: DEVICE.length,
   ran: RAN,
 });
 
@@ -214,6 +226,8 @@ function runWith(module, request, room) {
   memory.set(request.beside, at.beside);
   putPort(heap.view(), at.port, request.values);
   putPicture(heap.view(), at.picture, request.values);
+  putPlan(heap.view(), at.plan, request.values);
+  memory.set(DEVICE, at.device);
   call(exports, at, request, lengths);
   return tellOf(heap, at, request.job);
 }

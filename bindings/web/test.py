@@ -890,6 +890,98 @@ def try_paths(page):
     try_faults_of_paths(page)
 
 
+# Tables and networks without a plan, and what is said of them.
+WITHOUT_PLAN = (
+    ("stream 1 7 60 250us 20us 1 deadline 1ns\n", "No schedule is found that meets the deadline of stream 1."),
+    ("stream 1 7 1514 20us 0us 1 deadline 20us\nstream 2 6 1514 30us 0us 1 deadline 30us\n",
+     "The frames of class 1 and of those above it need more time than there is, under any schedule."),
+    ("stream 1 16 60 250us 20us 1 deadline 20us\n", "No schedule is found: each frame of stream 1 is dropped when it comes, by its priority or its length."),
+    ("link a b 1us\nstream 1 7 60 1ms any 1 deadline 2us via a b\n", "No schedule is found that meets the deadline of stream 1."),
+    ("# nothing\n", "The table has no stream."),
+)
+
+# Options of plans: their fields, the words of the program, and what is said of values that are none.
+PLAN_OPTIONS = ({"cycle": "125 us"}, ["--cycle", "125us"]), ({"least": "2us", "entries": "3"}, ["--least-interval", "2us", "--entries", "3"]), (
+    {"base": "1 ms", "share": True, "rate": "100"}, ["--base-time", "1000000", "--share", "--rate", "100"])
+BAD_PLAN_OPTIONS = (
+    ("cycle", "1.5", "bad value of --cycle: wanted is whole nanoseconds, from 1 to 4294967295, such as 1 ms."),
+    ("cycle", "0", "bad value of --cycle: wanted is whole nanoseconds, from 1 to 4294967295, such as 1 ms."),
+    ("cycle", "5 s", "bad value of --cycle: wanted is whole nanoseconds, from 1 to 4294967295, such as 1 ms."),
+    ("entries", "257", "bad value of --entries: wanted is a whole number from 1 to 256."),
+    ("least", "5 s", "bad value of --least-interval: wanted is whole nanoseconds, from 0 to 4294967295, such as 2 us."),
+    ("base", "x", "bad value of --base-time: wanted is whole nanoseconds, from 0 to 9223372036854775807, such as 1 s."),
+)
+
+
+def planned(text, *words):
+    with tempfile.NamedTemporaryFile() as file:
+        file.write(text.encode())
+        file.flush()
+        return program("plan", *words, file.name, text=b"")[1]
+
+
+def try_plan(page):
+    """The examples of plans against the program, with their pictures; their schedules with their streams; other options, none, and faults."""
+    for name, ports in (("drive.streams", 1), ("line.network", 3), ("vehicle.network", 3)):
+        text = (EXAMPLES / name).read_text(encoding="utf-8")
+        plan = planned(text)
+        page.choose(f"{name.split('.')[0]}.plan")
+        page.answers(f"the plan for {name}", plan)
+        head = "A schedule is found" if ports == 1 else f"{ports} schedules are found, one for each port that streams cross"
+        page.same(f"verdict of the plan for {name}", page.text("verdict"), f"{head}: every deadline is met, for ever.")
+        page.same(f"pictures of the plan for {name}", page.do("return [at('which-row').hidden, at('which').length]"), [ports == 1, ports])
+        page.same(f"ports of the plan for {name}", list(dict.fromkeys(it[0] for it in chosen_rows(page, "classes"))), re.findall(r"dev (\S+)", plan.decode()))
+        page.browser.shoot(SHOTS / f"{page.browser.name}-{name.split('.')[0]}.plan.png")
+        for place, line in enumerate(plan.decode().splitlines()):
+            if ports > 1:
+                choose_picture(page, place)
+            cycle = int(re.search(r"cycle-time (\d+)", line)[1]) * 1000
+            change = re.search(rb"change (\d+)", program("script", text=f"{line}\n".encode())[1])[1].decode()
+            page.picture(f"schedule {place + 1} of the plan for {name}", f"{line}\n".encode(), "--from", change, "--to", str(int(change) + 2 * cycle))
+        page.click("#take")
+        page.settle()
+        page.same(f"the plan for {name} with its streams", page.do("return [at('form').elements.job.value, at('text').value, at('beside').value, at('gates').hidden, at('example').value]"),
+                  ["bounds" if ports == 1 else "paths", plan.decode(), text, False, "own"])
+        page.same(f"the plan for {name} is judged", page.text("verdict"), "Every deadline is met, for ever.")
+    page.click("[name=job][value=plan]")
+    page.settle()
+    page.same("a plan of what was judged", page.do("return [at('form').elements.job.value, at('text').value]"), ["plan", text])
+    try_other_plans(page)
+
+
+def try_other_plans(page):
+    table = "stream 1 7 60 250us 20us 1 deadline 60us\nstream 9 3 1000 1ms any 1\n"
+    for options, words in PLAN_OPTIONS:
+        page.choose("drive.plan")
+        for name, value in options.items():
+            page.set(name, value)
+        page.set("text", table)
+        page.run()
+        page.answers(f"a plan with {words}", planned(table, *words))
+        page.same(f"a plan with {words} is found", page.text("verdict"), "A schedule is found: every deadline is met, for ever.")
+    page.choose("drive.plan")
+    for text, said in WITHOUT_PLAN:
+        page.set("text", text)
+        page.run()
+        page.answers(f"no plan for {text!r}", planned(text))
+        page.same(f"no plan for {text!r} is said", [page.text("verdict"), page.text("status")[:13], page.do("return [at('fault').hidden, at('frame').hidden, at('take').hidden]")], [said, "None is found", [True, True, True]])
+    for text, said in (("streams\n", "Line 1: UnknownLine, the first word of the line is none that may stand there."), ("\nlink a b\n", "Line 2: WordCount, the line has too few or too many words.")):
+        page.set("text", text)
+        page.run()
+        page.same(f"a plan for {text!r}", [page.text("fault-text"), page.text("status")[:21]], [said, "The input has a fault"])
+    page.set("text", table)
+    for name, value, said in BAD_PLAN_OPTIONS:
+        page.set(name, value)
+        page.run()
+        page.same(f"a plan with {name} {value}", [page.text("fault-text"), page.do(f"return at('{name}').getAttribute('aria-invalid')")], [said, "true"])
+        page.set(name, "" if name != "entries" else "256")
+    page.open(f"#job=plan&entries=3&text={packed(table)}")
+    page.same("a plan by a link", page.text("answers"), planned(table, "--entries", "3").decode())
+    page.open("")
+    give(page, "my.streams", table.encode())
+    page.same("a table from a file", page.do("return [at('form').elements.job.value, at('text').value]"), ["plan", table])
+
+
 # What is wrong with a network or with the schedules of its ports, what is said of it, and in which editor it is marked.
 FAULTS_OF_PATHS = (
     ("link a b 1us\nlink a b 2us\n", TWO_PORTS, "Network: Line 2: SecondLink (line 1), a line before it has this link.", "beside"),
@@ -2027,7 +2119,7 @@ def try_tabs(page):
     """Each tab shows an example of its own; one's own text goes along where it can, and is there again where it can't."""
     tab = "document.querySelector('input[name=job][value={}]').click()"
     page.forget()
-    for name, example in (("bounds", "drive.bounds"), ("paths", "line.paths"), ("check", "windows.schedules"), ("streams", "planned.streams"), ("replay", "machine.pcap"), ("script", "first.script")):
+    for name, example in (("bounds", "drive.bounds"), ("paths", "line.paths"), ("plan", "line.plan"), ("check", "windows.schedules"), ("streams", "planned.streams"), ("replay", "machine.pcap"), ("script", "first.script")):
         page.do(tab.format(name))
         page.settle()
         page.same(f"the tab {name}", page.do("return [at('example').value, at('sentence').textContent !== '', at('view').classList.contains('stale'), at('frame').hidden]"), [example, True, False, False])
@@ -2340,7 +2432,7 @@ def try_looks(page):
     shoot(page, "replay")
 
 
-TRIES = [try_weight, try_examples, try_replay, try_typing, try_options, try_worked, try_faults, try_refused, try_zoom, try_keys, try_micros, try_moments, try_frames, try_reasons, try_why, try_drops, try_tips, try_marks, try_pictures, try_rows, try_shades, try_whole, try_bounds, try_paths, try_timing, try_sharing, try_linux, try_compare, try_gates, try_imports, try_pcapng, try_changed, try_ink,
+TRIES = [try_weight, try_examples, try_replay, try_typing, try_options, try_worked, try_faults, try_refused, try_zoom, try_keys, try_micros, try_moments, try_frames, try_reasons, try_why, try_drops, try_tips, try_marks, try_pictures, try_rows, try_shades, try_whole, try_bounds, try_paths, try_plan, try_timing, try_sharing, try_linux, try_compare, try_gates, try_imports, try_pcapng, try_changed, try_ink,
          try_story, try_tabs, try_kept, try_long, try_files, try_forgotten, try_dates, try_stale, try_live, try_link, try_stop, try_blocks, try_access, try_screens, try_sizes, try_looks]
 
 
