@@ -313,7 +313,7 @@ const hasBars = () => ran.job === "bounds" || (ran.job === "paths" && chosen() =
 function showControls(time, origin) {
   for (const part of document.querySelectorAll("#zoom [data-step], #zoom details")) part.hidden = !time;
   at("which-row").hidden = at("which").length < 2;
-  at("which-name").textContent = ran.job === "paths" ? "Picture of" : "Schedule";
+  at("which-name").textContent = { paths: "Picture of", plan: "Port" }[ran.job] ?? "Schedule";
   at("origin-row").hidden = !origin;
 }
 

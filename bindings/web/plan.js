@@ -5,7 +5,7 @@ import { readScript } from "./script.js";
 import { count } from "./words.js";
 
 // Why there is none, in words; what is told behind the reason stands in them.
-const REASONS = {
+const WITHOUT = {
   overloaded: (kind) => `The frames of class ${kind} and of those above it need more time than there is, under any schedule.`,
   deadline: (id) => `No schedule is found that meets the deadline of stream ${id}.`,
   lost: (kind) => `No schedule is found: frames of class ${kind} would be lost. With deadlines its streams get windows.`,
@@ -30,7 +30,7 @@ export const valuesOfPlanned = (streams, name, values) => valuesOfPort(isNetwork
 /** What a plan comes to. */
 export function planVerdict(streams, answers) {
   const [, reason, number] = /^none (\w+)(?: (?:class )?(\d+))?$/m.exec(answers) ?? [];
-  if (reason) return REASONS[reason](number);
+  if (reason) return WITHOUT[reason](number);
   const found = schedulesIn(answers).length;
   const head = found === 1 ? "A schedule is found" : `${count(found, "schedule")} are found, one for each port that streams cross`;
   const isDue = /^[ \t]*stream[ \t].*[ \t]deadline[ \t]/m.test(streams);

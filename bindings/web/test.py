@@ -28,7 +28,7 @@ OUT = WEB / "out"
 PAGE = pathlib.Path(os.environ.get("TAPRIO_PAGE") or WEB / "taprio.html").resolve()
 EXAMPLES = TOP / "examples"
 SHOTS = OUT / "shots"
-PROGRAM = subprocess.run([TOP / "taprio_port", "--where"], stdout=subprocess.PIPE, text=True, check=True).stdout.strip()
+PROGRAM = os.environ.get("PLAIN_PORT") or subprocess.run([TOP / "taprio_port", "--where"], stdout=subprocess.PIPE, text=True, check=True).stdout.strip()
 OPTIONS_OF = options(TOP / "examples")
 PS = {"ps": 1, "ns": 10**3, "us": 10**6, "ms": 10**9, "s": 10**12}
 
@@ -896,13 +896,13 @@ WITHOUT_PLAN = (
     ("stream 1 7 1514 20us 0us 1 deadline 20us\nstream 2 6 1514 30us 0us 1 deadline 30us\n",
      "The frames of class 1 and of those above it need more time than there is, under any schedule."),
     ("stream 1 16 60 250us 20us 1 deadline 20us\n", "No schedule is found: each frame of stream 1 is dropped when it comes, by its priority or its length."),
-    ("link a b 1us\nstream 1 7 60 1ms any 1 deadline 2us via a b\n", "No schedule is found that meets the deadline of stream 1."),
+    ("link a b 1us\nstream 1 7 60 1ms any 1 deadline 2us via a b\n", "No schedule is found: no cycle fits, or the one that is given is too short."),
     ("# nothing\n", "The table has no stream."),
 )
 
 # Options of plans: their fields, the words of the program, and what is said of values that are none.
 PLAN_OPTIONS = ({"cycle": "125 us"}, ["--cycle", "125us"]), ({"least": "2us", "entries": "3"}, ["--least-interval", "2us", "--entries", "3"]), (
-    {"base": "1 ms", "share": True, "rate": "100"}, ["--base-time", "1000000", "--share", "--rate", "100"])
+    {"base": "1 ms", "rate": "100"}, ["--base-time", "1000000", "--rate", "100"]), ({"share": True}, ["--share"])
 BAD_PLAN_OPTIONS = (
     ("cycle", "1.5", "bad value of --cycle: wanted is whole nanoseconds, from 1 to 4294967295, such as 1 ms."),
     ("cycle", "0", "bad value of --cycle: wanted is whole nanoseconds, from 1 to 4294967295, such as 1 ms."),
