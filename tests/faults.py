@@ -17,7 +17,7 @@ PARTS = ["A line is malformed", "A strict run finds something", "A capture is ma
 UNMET = {"BadShift", "OUT is one of the inputs", "cannot open", "read failed", "write failed", "bounds", "bounds: no schedule was judged",
          "bounds: no stream is in the table"} | {
     f"bad value of --{name}"
-    for name in ("map", "frame", "stamp", "shift", "width", "cycle", "entries", "least-interval", "device", "base-time", "next")}
+    for name in ("map", "frame", "stamp", "shift", "width", "device", "next")}
 # What a strict run finds, and is no fault: it ends no run.
 FINDINGS = {"frame", "class", "paths", "paths: stream", "paths: no schedule was judged", "paths: no stream is in the network"}
 # A limit whose text says all.

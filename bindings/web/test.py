@@ -28,7 +28,7 @@ OUT = WEB / "out"
 PAGE = pathlib.Path(os.environ.get("TAPRIO_PAGE") or WEB / "taprio.html").resolve()
 EXAMPLES = TOP / "examples"
 SHOTS = OUT / "shots"
-PROGRAM = os.environ.get("PLAIN_PORT") or subprocess.run([TOP / "taprio_port", "--where"], stdout=subprocess.PIPE, text=True, check=True).stdout.strip()
+PROGRAM = subprocess.run([TOP / "taprio_port", "--where"], stdout=subprocess.PIPE, text=True, check=True).stdout.strip()
 OPTIONS_OF = options(TOP / "examples")
 PS = {"ps": 1, "ns": 10**3, "us": 10**6, "ms": 10**9, "s": 10**12}
 
@@ -2119,7 +2119,7 @@ def try_tabs(page):
     """Each tab shows an example of its own; one's own text goes along where it can, and is there again where it can't."""
     tab = "document.querySelector('input[name=job][value={}]').click()"
     page.forget()
-    for name, example in (("bounds", "drive.bounds"), ("paths", "line.paths"), ("plan", "line.plan"), ("check", "windows.schedules"), ("streams", "planned.streams"), ("replay", "machine.pcap"), ("script", "first.script")):
+    for name, example in (("bounds", "drive.bounds"), ("paths", "line.paths"), ("plan", "drive.plan"), ("check", "windows.schedules"), ("streams", "planned.streams"), ("replay", "machine.pcap"), ("script", "first.script")):
         page.do(tab.format(name))
         page.settle()
         page.same(f"the tab {name}", page.do("return [at('example').value, at('sentence').textContent !== '', at('view').classList.contains('stale'), at('frame').hidden]"), [example, True, False, False])
