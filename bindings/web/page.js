@@ -16,7 +16,7 @@ import { runOf, whySaid } from "./why.js";
 import { timesOf } from "./shades.js";
 import { boundsIn, boundsVerdict, countedFrom, drawBounds, latestOf } from "./bounds.js";
 import { pathsIn, pathsVerdict, valuesOfPort } from "./paths.js";
-import { planVerdict, schedulesIn, valuesOfPlanned } from "./plan.js";
+import { countOfFrames, planVerdict, schedulesIn, valuesOfPlanned } from "./plan.js";
 import { commandsIn, differencesByClass, differencesByStream, windowOfBoth, withSchedule } from "./compare.js";
 import { dateOf, endOfRun, notYet, originOf, setClock, windowOf } from "./happens.js";
 import { count } from "./words.js";
@@ -47,6 +47,7 @@ const REASONS_TOLD = 8; // reasons why a frame waits that are told below the pic
 const REASONS_IN_TIP = 3; // and in the tip
 const LONG = 500_000; // characters of answers after which the picture comes before the frames
 const MOST_NEW = 500; // lines of the answers that are marked since they are new: a browser takes long to paint very many
+const MOST_DRAWN = 20_000; // frames of a table that are drawn with its plan
 const MOST_LINK = 8_000; // characters of a link that most places take
 
 const at = (id) => document.getElementById(id);
@@ -756,15 +757,23 @@ async function takeRun(mine, run, script, until, answers) {
   if (told && ["script", "replay"].includes(run.job)) run.window = windowOf(run);
 }
 
-// The schedule that is chosen of a check or of a network's ports: it is drawn alone, two of its cycles from its change on.
+// A plan for the streams of a table with these: each frame comes at its earliest. Offsets count from moment 0.
+async function takePlanned(mine, schedule) {
+  const told = await ask(mine, { job: "streams", text: ran.text, beside: encoded(schedule), values: ran.values });
+  if (told) await takeScript(mine, ran, new TextDecoder().decode(told.output));
+}
+
+// Whether the frames of a plan's streams are drawn with it: those of a network come through other ports, and not all of very many are.
+const hasFrames = () => ran.job === "plan" && !isNetwork(ran.text) && !ran.values.base && countOfFrames(ran.text) <= MOST_DRAWN;
+
+// The schedule that is chosen of a check, of a network's ports or of a plan: two of its cycles are drawn, from its change on.
 async function takeSchedule(mine) {
   const { number, name, line: text } = chosenSchedule() ?? {};
   if (number === undefined) return;
   if (ran.job === "paths") ran.port = valuesOfPort(ran.besideText, name, ran.values);
   if (ran.job === "plan") ran.port = valuesOfPlanned(ran.text, name, ran.values);
-  const told = await ask(mine, { job: "script", text: `${text}\n`, beside: new Uint8Array(), values: { ...ran.values, ...ran.port, until: null, summary: false } });
-  if (!told) return;
-  await takeRun(mine, ran, `${text}\n`, null, new TextDecoder().decode(told.output));
+  if (hasFrames()) await takePlanned(mine, `${text}\n`);
+  else await takeAlone(mine, `${text}\n`);
   const [it] = ran.changes;
   if (!it || it.cycle === null) {
     ran.source = null;
@@ -772,6 +781,12 @@ async function takeSchedule(mine) {
     return;
   }
   ran.window = { from: it.change, to: it.change + 2n * it.cycle };
+}
+
+// A schedule without any frame.
+async function takeAlone(mine, schedule) {
+  const told = await ask(mine, { job: "script", text: schedule, beside: new Uint8Array(), values: { ...ran.values, ...ran.port, until: null, summary: false } });
+  if (told) await takeRun(mine, ran, schedule, null, new TextDecoder().decode(told.output));
 }
 
 // The script that a table of streams became is run, too: it is what its picture shows.

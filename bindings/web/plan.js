@@ -1,7 +1,7 @@
 // A plan: the schedules that are found for streams, or why there are none.
 import { isNetwork } from "./captures.js";
 import { valuesOfPort } from "./paths.js";
-import { readScript } from "./script.js";
+import { linesOf, readScript } from "./script.js";
 import { count } from "./words.js";
 
 // Why there is none, in words; what is told behind the reason stands in them.
@@ -26,6 +26,12 @@ export const schedulesIn = (text) =>
  * @param {string} streams a table, or a network, whose lines say what its ports have
  */
 export const valuesOfPlanned = (streams, name, values) => valuesOfPort(isNetwork(streams) ? streams : "", name, values);
+
+/** How many frames the streams of a table have, by their words. */
+export function countOfFrames(table) {
+  const streams = [...linesOf(table)].map(({ line }) => line.split(/[ \t\r]+/).filter(Boolean)).filter(([word]) => word === "stream");
+  return streams.reduce((sum, words) => sum + (Number(words[6]) || 0), 0);
+}
 
 /** What a plan comes to. */
 export function planVerdict(streams, answers) {

@@ -920,6 +920,14 @@ def planned(text, *words):
         return program("plan", *words, file.name, text=b"")[1]
 
 
+def with_streams(table, schedule):
+    """The script of a schedule with the frames of a table."""
+    with tempfile.NamedTemporaryFile() as file:
+        file.write(schedule.encode())
+        file.flush()
+        return program("streams", "--with", file.name, text=table.encode())[1]
+
+
 def try_plan(page):
     """The examples of plans against the program, with their pictures; their schedules with their streams; other options, none, and faults."""
     for name, ports in (("drive.streams", 1), ("line.network", 3), ("vehicle.network", 3)):
@@ -930,6 +938,7 @@ def try_plan(page):
         head = "A schedule is found" if ports == 1 else f"{ports} schedules are found, one for each port that streams cross"
         page.same(f"verdict of the plan for {name}", page.text("verdict"), f"{head}: every deadline is met, for ever.")
         page.same(f"pictures of the plan for {name}", page.do("return [at('which-row').hidden, at('which').length]"), [ports == 1, ports])
+        page.same(f"frames of the plan for {name}", page.do("return [at('frames-box').hidden, at('frames-name').textContent]"), [ports > 1, f"Frames ({4000 if ports == 1 else 0:,})"])
         page.same(f"ports of the plan for {name}", list(dict.fromkeys(it[0] for it in chosen_rows(page, "classes"))), re.findall(r"dev (\S+)", plan.decode()))
         page.browser.shoot(SHOTS / f"{page.browser.name}-{name.split('.')[0]}.plan.png")
         for place, line in enumerate(plan.decode().splitlines()):
@@ -937,7 +946,8 @@ def try_plan(page):
                 choose_picture(page, place)
             cycle = int(re.search(r"cycle-time (\d+)", line)[1]) * 1000
             change = re.search(rb"change (\d+)", program("script", text=f"{line}\n".encode())[1])[1].decode()
-            page.picture(f"schedule {place + 1} of the plan for {name}", f"{line}\n".encode(), "--from", change, "--to", str(int(change) + 2 * cycle))
+            script = f"{line}\n".encode() if ports > 1 else with_streams(text, f"{line}\n")
+            page.picture(f"schedule {place + 1} of the plan for {name}", script, "--from", change, "--to", str(int(change) + 2 * cycle))
         page.click("#take")
         page.settle()
         page.same(f"the plan for {name} with its streams", page.do("return [at('form').elements.job.value, at('text').value, at('beside').value, at('gates').hidden, at('example').value]"),
