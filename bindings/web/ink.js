@@ -18,9 +18,11 @@ function colourOf(word, before, first) {
   return (first === "tc" ? OF_COMMANDS : OF_LINES).includes(word) ? "option" : "";
 }
 
+const MOST_COLOURED = 4_000; // characters of a line whose words have colours: a browser takes long for very many
+
 // The words of a physical line that have a colour; `of` is the first word of the line that it goes on, or null.
 function colouredIn(line, of) {
-  const words = [...line.matchAll(/[^ \t\r]+/g)];
+  const words = [...line.slice(0, MOST_COLOURED).matchAll(/[^ \t\r]+/g)];
   let first = of;
   return words.flatMap(({ 0: word, index: from }, place) => {
     const isFirst = first === null;

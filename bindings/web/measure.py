@@ -29,7 +29,7 @@ def of_page(page, text, wanted):
     """The milliseconds that the page says for the script."""
     # (a long text that was dropped can't be changed)
     page.choose("first.script")
-    page.do(f"at('text').value = {json.dumps(text)}")
+    page.set("text", text)
     page.run(300)
     page.same("a long script", page.saved("save-answers"), wanted)
     return float(page.text("status").split(" in ")[1].split(" ms")[0].replace(",", ""))

@@ -1928,6 +1928,13 @@ def try_ink(page):
             page.run()
             page.same(f"underlined in {line}", page.do(ODD), [line if wanted is None else wanted])
     page.choose("first.script")
+    # a line of 260,000 characters, as of a file whose line ends were lost
+    page.do("at('text').select()")
+    begun = time.monotonic()
+    page.paste("frame 1 0 60 " * 20_000)
+    page.settle()
+    page.same("a long line is there at once", [time.monotonic() - begun < 3, page.do("return at('text').value.length")], [True, 260_000])
+    page.choose("first.script")
 
 
 STALE = "return ['view', 'results'].map((it) => at(it).classList.contains('stale'))"
