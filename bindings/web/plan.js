@@ -40,5 +40,5 @@ export function planVerdict(streams, answers) {
   const found = schedulesIn(answers).length;
   const head = found === 1 ? "A schedule is found" : `${count(found, "schedule")} are found, one for each port that streams cross`;
   const isDue = /^[ \t]*stream[ \t].*[ \t]deadline[ \t]/m.test(streams);
-  return `${head}: ${isDue ? "every deadline is met" : "no frame of a stream is lost"}, for ever.`;
+  return isDue ? `${head}: every deadline is met, for ever.` : `${head}. No stream has a deadline.`;
 }

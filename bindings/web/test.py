@@ -970,6 +970,9 @@ def try_other_plans(page):
         page.answers(f"a plan with {words}", planned(table, *words))
         page.same(f"a plan with {words} is found", page.text("verdict"), "A schedule is found: every deadline is met, for ever.")
     page.choose("drive.plan")
+    page.set("text", "# deadline\nstream 1 7 60 1ms any 1\n")
+    page.run()
+    page.same("a plan without deadlines", page.text("verdict"), "A schedule is found. No stream has a deadline.")
     for text, said in WITHOUT_PLAN:
         page.set("text", text)
         page.run()
