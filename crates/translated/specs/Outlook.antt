@@ -1,0 +1,24 @@
+-- What a reader still has to give that turns what another one gives.
+use Rattle.std.specs.Prelude.{◌≡◌, ℕ, List, [], ◌++◌, drop, Option, Bool, true, option_map}
+use Rattle.std.specs.Io.KnownBytes.{prepend_known}
+use Rattle.translated.specs.declared.reader.Translated.{Translated}
+use Rattle.translated.specs.Hand.{held}
+
+-- nothing comes later, where these octets are the last
+abbrev pub IsAfter : Bool → List ℕ → Type 0
+IsAfter is_last later = is_last ≡ true → later ≡ []
+
+-- Some of the octets in hand were taken, and others put for them: whatever comes later, what was put and the meaning of what is left
+-- are the meaning of all.
+abbrev pub IsTurned : {T : Type 0} → (T → List ℕ → List ℕ) → T → T → List ℕ → Bool → ℕ → List ℕ → Type 0
+IsTurned meaning old new octets is_last count put = (later : List ℕ) → IsAfter is_last later
+    → meaning old (octets ++ later) ≡ put ++ meaning new (drop count octets ++ later)
+
+-- Where the octets are the last, and nothing was taken or put, they have no meaning any more.
+abbrev pub IsDone : {T : Type 0} → (T → List ℕ → List ℕ) → T → List ℕ → Bool → ℕ → List ℕ → Type 0
+IsDone meaning new octets is_last count put = is_last ≡ true → count ≡ 0 → put ≡ [] → meaning new octets ≡ []
+
+-- what is put and not yet given, and then the meaning of what is in hand and of what the source still has
+abbrev pub outlook : {R T A : Type 0} → (R → Option (List ℕ)) → (T → List ℕ → List ℕ) → Translated R T A → Option (List ℕ)
+outlook remaining meaning t = prepend_known (drop t.given t.turned.items)
+    (option_map (meaning t.translation) (prepend_known (held t.hand) (remaining t.source)))

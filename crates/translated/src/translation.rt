@@ -1,0 +1,31 @@
+//! How octets are turned into others.
+
+ghost use Rattle.std.specs.Prelude.{◌≡◌, ◌≤◌, [], ℕ, List, IfOk, OnErr, length};
+ghost use Rattle.translated.specs.Outlook.{IsTurned, IsDone};
+
+use std::alloc::{AllocError, Allocator};
+
+/// How octets are turned into others, some of them at a time.
+pub trait Translation {
+    // What all octets that are still to come are turned into.
+    ghost meaning: { Self → List ℕ → List ℕ };
+
+    /// Takes octets from the front of those in hand, and puts what they are turned into into `out`, which is empty. How
+    /// many it took. `is_last`: no octet comes after those in hand.
+    ///
+    /// Where it takes nothing and puts nothing, it wants more of them in hand; where none comes any more, nothing is left
+    /// to be put. When out of memory, nothing is taken, and what stands in `out` doesn't count.
+    fn turn<A: Allocator>(
+        &mut self,
+        octets: &[u8],
+        is_last: bool,
+        out: &mut Vec<u8, A>,
+    ) -> Result<usize, AllocError>
+        requires { out.old.items ≡ [] }
+        ensures taken { IfOk result (λ count. count ≤ length octets.now) }
+        ensures turned { IfOk result (λ count.
+            IsTurned meaning self.old self.new octets.now is_last count out.new.items) }
+        ensures done { IfOk result (λ count.
+            IsDone meaning self.new octets.now is_last count out.new.items) }
+        ensures failed { OnErr result (self.new ≡ self.old) };
+}
