@@ -119,7 +119,10 @@ impl<R: Read, T: Translation, A: Allocator> Translated<R, T, A> {
             (length (drop self.old.given self.old.turned.items)) }
         ensures octets { drop self.old.given self.old.turned.items
             ≡ take result buf.new ++ drop self.new.given self.new.turned.items }
-        ensures same { self.new ≡ record self.old { given = self.new.given } }
+        ensures source { self.new.source ≡ self.old.source }
+        ensures hand { self.new.hand ≡ self.old.hand }
+        ensures translation { self.new.translation ≡ self.old.translation }
+        ensures turned { self.new.turned ≡ self.old.turned }
     {
         let start = self.given;
         let all = self.turned.as_slice();
