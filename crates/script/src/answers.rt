@@ -17,7 +17,7 @@ use port_text::answer_text::{
 use port_text::tc_reader::{CommandPlace, TcFault};
 use std::alloc::Allocator;
 use std::io::Write;
-use summary::{Summary, note_start, note_verdict};
+use summary::{Summary, note_installation, note_start, note_verdict};
 use text::octet_writer::PutLine;
 use wire_time::{CLASSES, Frame, MAX_MOMENT};
 
@@ -80,8 +80,8 @@ fn tell_refusal<H: Watch>(watch: &mut H, number: u32, line: &[u8], answer: Resul
     }
 }
 
-/// Gives the command of the line of this number to the port, and writes the answer. Who watches is called where it is
-/// refused.
+/// Gives the command of the line of this number to the port, and writes the answer, noted where a summary is wanted. Who
+/// watches is called where it is refused.
 fn put_install<A: Allocator, W: PutLine, H: Watch>(
     port: &mut RunningPort<A>,
     summary: &mut Option<Summary<A>>,
@@ -94,9 +94,9 @@ fn put_install<A: Allocator, W: PutLine, H: Watch>(
     ensures { IsAnswered (Asks (Events.Install command.entry)) result (W.contents writer.old)
         (W.contents writer.new) port.old port.new summary.old summary.new }
 {
-    // For the prover: a call on a port says what holds of every port.
-    let _now = port.now();
+    let now = port.now();
     let answer = port.install(command);
+    note_installation(summary, now, answer);
     tell_refusal(watch, number, line, answer);
     put_installation(writer, answer)
 }
