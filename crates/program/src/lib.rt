@@ -16,6 +16,8 @@ ghost use Rattle.program.specs.Given.{memory_text};
 
 mod bounds_call;
 mod calls;
+mod devices;
+mod early;
 mod frames_call;
 mod job_name;
 mod laws;
