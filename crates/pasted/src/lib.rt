@@ -1,0 +1,16 @@
+//! Lines of `tc` as people paste them, and the lines of one device, as translations of octets.
+//!
+//! `Tolerant` gives the plain lines that pasted ones mean, `OfDevice` the `tc` lines of one device. What each of them
+//! gives is a definition of specs/: Plain.antt and Device.antt, a line at a time by Lines.antt.
+#![tactic(auto)]
+
+mod line_rule;
+mod lines;
+mod place;
+mod runs;
+mod tail;
+
+pub use line_rule::{Line, LineRule};
+pub use lines::Lines;
+pub use place::Place;
+pub use tail::{LongRun, Tail};
