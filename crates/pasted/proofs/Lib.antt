@@ -1,1 +1,2 @@
 mod RunLaws
+mod QuoteLaws

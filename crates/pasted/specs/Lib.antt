@@ -1,3 +1,5 @@
 pub mod Lines
 pub mod Reading
 pub mod State
+pub mod Plain
+pub mod Notes

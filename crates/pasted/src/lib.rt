@@ -4,13 +4,20 @@
 //! gives is a definition of specs/: Plain.antt and Device.antt, a line at a time by Lines.antt.
 #![tactic(auto)]
 
+mod ends;
+mod fronts;
 mod line_rule;
 mod lines;
+mod note;
 mod place;
+mod plain;
+mod quotes;
 mod runs;
 mod tail;
+mod words;
 
 pub use line_rule::{Line, LineRule};
 pub use lines::Lines;
+pub use note::{Marks, Note, Passed};
 pub use place::Place;
 pub use tail::{LongRun, Tail};

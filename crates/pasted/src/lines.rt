@@ -189,12 +189,13 @@ impl<L: LineRule> Translation for Lines<L> {
             (self.old.number + count_by (λ b. b == 10) (take count octets.now))) }
         ensures failed { OnErr result (self.new ≡ self.old) }
     {
+        let number = self.number;
         if octets.is_empty() {
             return Ok(0);
         }
         let count = self.take(octets, is_last, out)?;
         let feeds = count_feeds(&octets[..count]);
-        self.number = self.number.saturating_add(feeds as u64);
+        self.number = number.saturating_add(feeds as u64);
         Ok(count)
     }
 }
