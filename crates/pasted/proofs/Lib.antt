@@ -1,2 +1,3 @@
 mod RunLaws
 mod QuoteLaws
+mod DeviceLaws

@@ -3,3 +3,4 @@ pub mod Reading
 pub mod State
 pub mod Plain
 pub mod Notes
+pub mod Device

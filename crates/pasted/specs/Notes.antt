@@ -62,8 +62,10 @@ marks_of_part Begin marked line = marks_of_command marked line
 marks_of_part Command marked line = marks_of_more line
 marks_of_part Other marked line = marks_of_other marked
 
+-- what is passed over in a line at a place, whose byte order mark is off
+abbrev pub text_marks : Place → Bool → List ℕ → Marks
+text_marks place marked text = if is_of_command place text then marks_of_part place marked text else marks_of_other marked
+
 -- what is passed over in a line at a place
 abbrev pub marks : Place → List ℕ → Marks
-marks place line =
-    let text = unmarked place line in
-    if is_of_command place text then marks_of_part place (has_mark place line) text else marks_of_other (has_mark place line)
+marks place line = text_marks place (has_mark place line) (unmarked place line)

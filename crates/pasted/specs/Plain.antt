@@ -164,15 +164,21 @@ plain_part Begin line = plain_command line
 plain_part Command line = plain_more line
 plain_part Other line = line
 
+-- what a line at a place comes out as, its byte order mark off
+abbrev pub plain_text : Place → List ℕ → List ℕ
+plain_text place text = if is_of_command place text then plain_part place text else text
+
+-- where the next line stands
+abbrev pub text_after : Place → List ℕ → Place
+text_after place text = if is_of_command place text then (if is_joined text then Command else Begin) else place_behind place (joins text)
+
 -- what a line at a place comes out as
 abbrev pub plain_line : Place → List ℕ → List ℕ
-plain_line place line = let text = unmarked place line in if is_of_command place text then plain_part place text else text
+plain_line place line = plain_text place (unmarked place line)
 
 -- where the next line stands
 abbrev pub place_after : Place → List ℕ → Place
-place_after place line =
-    let text = unmarked place line in
-    if is_of_command place text then (if is_joined text then Command else Begin) else place_behind place (joins text)
+place_after place line = text_after place (unmarked place line)
 
 -- each physical line by itself
 abbrev pub plain_rule : Rule

@@ -4,6 +4,7 @@
 //! gives is a definition of specs/: Plain.antt and Device.antt, a line at a time by Lines.antt.
 #![tactic(auto)]
 
+mod device;
 mod ends;
 mod fronts;
 mod line_rule;
@@ -14,10 +15,13 @@ mod plain;
 mod quotes;
 mod runs;
 mod tail;
+mod tolerant;
 mod words;
 
+pub use device::device_in;
 pub use line_rule::{Line, LineRule};
 pub use lines::Lines;
 pub use note::{Marks, Note, Passed};
 pub use place::Place;
+pub use tolerant::Tolerant;
 pub use tail::{LongRun, Tail};

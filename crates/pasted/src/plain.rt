@@ -1,8 +1,8 @@
 //! What a pasted line comes out as.
 
-ghost use Rattle.std.specs.Prelude.{◌≡◌, ◌++◌, [], IfOk};
-ghost use Rattle.pasted.specs.Plain.{begins_command, has_mark, is_of_command, plain_command, plain_more};
-ghost use Rattle.pasted.specs.Notes.{has_blanks, has_semicolon, marks_of_command, marks_of_more};
+ghost use Rattle.std.specs.Prelude.{◌≡◌, ◌++◌, IfOk, true};
+ghost use Rattle.pasted.specs.Plain.{begins_command, has_mark, is_of_command, plain_command, plain_more, plain_part, plain_text, text_after, unmarked};
+ghost use Rattle.pasted.specs.Notes.{has_blanks, has_semicolon, marks_of_command, marks_of_more, marks_of_part, text_marks};
 
 use crate::ends::{body, is_joined, put_ending};
 use crate::fronts::{command, has_prompt, has_sudo, is_command, past_prompt};
@@ -20,6 +20,16 @@ pub(crate) fn has_mark(place: Place, line: &[u8]) -> bool
     match place {
         Place::First => line.starts_with(b"\xef\xbb\xbf"),
         Place::Begin | Place::Command | Place::Other => false,
+    }
+}
+
+/// A line at a place without its byte order mark.
+pub(crate) fn unmarked(place: Place, line: &[u8]) -> &[u8]
+    ensures { result.now ≡ unmarked place line.now }
+{
+    match (place, line) {
+        (Place::First, [0xef, 0xbb, 0xbf, text @ ..]) => text,
+        _ => line,
     }
 }
 
@@ -52,6 +62,21 @@ pub(crate) fn is_of_command(place: Place, line: &[u8]) -> bool
         Place::First | Place::Begin => begins_command(line),
         Place::Command => true,
         Place::Other => false,
+    }
+}
+
+/// Where the line behind one of a command stands, or behind another one.
+pub(crate) fn text_after(place: Place, line: &[u8], of_command: bool) -> Place
+    requires { of_command ≡ is_of_command place line.now }
+    ensures { result ≡ text_after place line.now }
+{
+    if !of_command {
+        return place_behind(place, joins(line));
+    }
+    if is_joined(line) {
+        Place::Command
+    } else {
+        Place::Begin
     }
 }
 
@@ -95,6 +120,46 @@ pub(crate) fn put_more<A: Allocator>(
         blanks: has_blanks(line),
         quotes,
         semicolon: has_semicolon(line),
+        ..Marks::NONE
+    })
+}
+
+/// Puts a line of a command as it comes out, and tells what is passed over. The byte order mark is off.
+fn put_part<A: Allocator>(
+    place: Place,
+    line: &[u8],
+    is_marked: bool,
+    out: &mut Vec<u8, A>,
+) -> Result<Marks, AllocError>
+    requires { is_of_command place line.now ≡ true }
+    ensures text { IfOk result (λ _. out.new.items ≡ out.old.items ++ plain_part place line.now) }
+    ensures marks { IfOk result (λ marks. marks ≡ marks_of_part place is_marked line.now) }
+{
+    match place {
+        Place::First | Place::Begin => put_command(line, is_marked, out),
+        Place::Command => put_more(line, out),
+        Place::Other => unreachable!(),
+    }
+}
+
+/// Puts a line as it comes out, and tells what is passed over. The byte order mark is off.
+pub(crate) fn put_text<A: Allocator>(
+    place: Place,
+    line: &[u8],
+    is_marked: bool,
+    of_command: bool,
+    out: &mut Vec<u8, A>,
+) -> Result<Marks, AllocError>
+    requires { of_command ≡ is_of_command place line.now }
+    ensures text { IfOk result (λ _. out.new.items ≡ out.old.items ++ plain_text place line.now) }
+    ensures marks { IfOk result (λ marks. marks ≡ text_marks place is_marked line.now) }
+{
+    if of_command {
+        return put_part(place, line, is_marked, out);
+    }
+    out.extend_from_slice(line)?;
+    Ok(Marks {
+        byte_order: is_marked,
         ..Marks::NONE
     })
 }
