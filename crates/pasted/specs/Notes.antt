@@ -3,7 +3,7 @@ use Rattle.std.specs.Prelude.{◌-◌, ◌+◌, ◌^◌, ◌==◌, ◌&&◌, not
 use Rattle.std.specs.List.{list_any}
 use Rattle.std.specs.Str.{bytes_eq}
 use Rattle.text.specs.Script.{joins}
-use Rattle.pasted.specs.Plain.{body, command, first_word, behind_word, has_mark, has_prompt, has_quoted, has_sudo, is_joined, is_of_command, past_prompt, unended_length, unmarked}
+use Rattle.pasted.specs.Plain.{body, command, first_word, behind_word, has_mark, has_more_prompt, has_prompt, has_quoted, has_sudo, is_joined, is_of_command, past_more_prompt, past_prompt, unended_length, unmarked}
 use Rattle.pasted.specs.declared.place.Place.{Place}
 use Rattle.pasted.specs.declared.place.Place.TheVariants.{First, Begin, Command, Other}
 use Rattle.pasted.specs.declared.note.Marks.{Marks}
@@ -49,8 +49,13 @@ marks_of_command marked line = record {
 -- of one that is joined to a command
 abbrev pub marks_of_more : List ℕ → Marks
 marks_of_more line = record {
-  byte_order = false; prompt = false; sudo = false; path = false;
-  blanks = has_blanks line; quotes = has_quoted [] (body line); semicolon = has_semicolon line;
+  byte_order = false;
+  prompt = has_more_prompt (body line);
+  sudo = false;
+  path = false;
+  blanks = has_blanks line;
+  quotes = has_quoted [] (past_more_prompt (body line));
+  semicolon = has_semicolon line;
 }
 
 abbrev pub marks_of_other : Bool → Marks

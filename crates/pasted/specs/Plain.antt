@@ -32,22 +32,34 @@ next_word octets = past_blanks (behind_word octets)
 
 -- ---- prompts of a shell, sudo(8), and paths
 
--- a word that ends a prompt: its sign alone, or behind a user, a host or a folder
-abbrev pub is_prompt : List ℕ → Bool
-is_prompt word =
+-- whether a word ends with the sign of a prompt: $, # or %
+abbrev pub ends_with_sign : List ℕ → Bool
+ends_with_sign word =
     let last = slice_index word (length word - 1) in
-    ((last == 36) || (last == 35) || (last == 37)) && ((length word == 1) || (list_any (λ b. b == 64) word || list_any (λ b. b == 58) word))
+    (last == 36) || (last == 35) || (last == 37)
 
--- two words, of which the first begins with [ and the second ends with ]# or ]$
-unfoldable pub is_bracketed : List ℕ → Bool
-is_bracketed octets =
-    (slice_index (first_word octets) 0 == 91) && (ends_with nat_eq (first_word (next_word octets)) (codes "]#") || ends_with nat_eq (first_word (next_word octets)) (codes "]$"))
+-- whether a word may tell a user, a host or a folder: it has @ or :, and doesn't begin with # as a comment does
+abbrev pub tells_host : List ℕ → Bool
+tells_host word = not (slice_index word 0 == 35) && (list_any (λ b. b == 64) word || list_any (λ b. b == 58) word)
+
+-- a prompt of one word: the sign alone, or behind a user, a host or a folder
+abbrev pub is_prompt : List ℕ → Bool
+is_prompt word = ends_with_sign word && ((length word == 1) || tells_host word)
+
+-- a prompt of two words: those in brackets, or the sign apart
+unfoldable pub is_long_prompt : List ℕ → List ℕ → Bool
+is_long_prompt first second =
+    ((slice_index first 0 == 91) && (ends_with nat_eq second (codes "]#") || ends_with nat_eq second (codes "]$")))
+    || (tells_host first && ((length second == 1) && ends_with_sign second))
+
+abbrev pub has_long_prompt : List ℕ → Bool
+has_long_prompt octets = is_long_prompt (first_word octets) (first_word (next_word octets))
 
 unfoldable pub has_prompt : List ℕ → Bool
-has_prompt octets = is_prompt (first_word octets) || is_bracketed octets
+has_prompt octets = is_prompt (first_word octets) || has_long_prompt octets
 
 unfoldable pub past_prompt : List ℕ → List ℕ
-past_prompt octets = if is_prompt (first_word octets) then next_word octets else (if is_bracketed octets then next_word (next_word octets) else octets)
+past_prompt octets = if is_prompt (first_word octets) then next_word octets else (if has_long_prompt octets then next_word (next_word octets) else octets)
 
 abbrev pub has_sudo : List ℕ → Bool
 has_sudo octets = bytes_eq (first_word octets) (codes "sudo")
@@ -143,9 +155,16 @@ plain_command line =
     let octets = command (body line) in
     indent octets ++ (codes "tc" ++ (unquoted_words [] (behind_word octets) ++ ending line))
 
+-- the prompt of a shell on a line that is joined to another one
+abbrev pub has_more_prompt : List ℕ → Bool
+has_more_prompt octets = bytes_eq (first_word octets) (codes ">")
+
+unfoldable pub past_more_prompt : List ℕ → List ℕ
+past_more_prompt octets = if has_more_prompt octets then next_word octets else octets
+
 -- one that is joined to a command
 abbrev pub plain_more : List ℕ → List ℕ
-plain_more line = unquoted_words [] (body line) ++ ending line
+plain_more line = unquoted_words [] (past_more_prompt (body line)) ++ ending line
 
 abbrev pub begins_command : List ℕ → Bool
 begins_command line = is_command (command (body line))

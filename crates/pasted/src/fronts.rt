@@ -1,30 +1,52 @@
 //! What stands in front of a command: a prompt, sudo, and the path of tc.
 
 ghost use Rattle.std.specs.Prelude.{◌≡◌, ◌==◌, ◌||◌, ◌&&◌, length, not, nat_eq, codes};
-ghost use Rattle.pasted.specs.Plain.{command, has_prompt, has_sudo, is_bracketed, is_command, is_option, is_prompt, is_tc, past_option, past_prompt, past_sudo};
+ghost use Rattle.pasted.specs.Plain.{command, ends_with_sign, has_long_prompt, has_more_prompt, has_prompt, has_sudo, is_command, is_long_prompt, is_option, is_prompt, is_tc, past_more_prompt, past_option, past_prompt, past_sudo, tells_host};
 
 use crate::words::{first_word, next_word};
 
-/// Whether a word is a prompt, or ends one: its sign alone, or behind a user, a host or a folder.
+/// Whether a word ends with the sign of a prompt.
+fn ends_with_sign(word: &[u8]) -> bool
+    ensures { result ≡ ends_with_sign word.now }
+{
+    matches!(word, [.., b'$' | b'#' | b'%'])
+}
+
+/// Whether a word may tell a user, a host or a folder.
+fn tells_host(word: &[u8]) -> bool
+    ensures { result ≡ tells_host word.now }
+{
+    if let [b'#', ..] = word {
+        return false;
+    }
+    word.contains(&b'@') || word.contains(&b':')
+}
+
+/// Whether a word is a prompt: its sign alone, or behind a user, a host or a folder.
 fn is_prompt(word: &[u8]) -> bool
     ensures { result ≡ is_prompt word.now }
 {
-    match word {
-        [.., b'$' | b'#' | b'%'] => word.len() == 1 || word.contains(&b'@') || word.contains(&b':'),
-        _ => false,
-    }
+    ends_with_sign(word) && (word.len() == 1 || tells_host(word))
 }
 
-/// Whether two words are a prompt in brackets.
-#[tactic(auto, unfolding(crate::specs::Plain::is_bracketed))]
-fn is_bracketed(octets: &[u8]) -> bool
-    ensures { result ≡ is_bracketed octets.now }
+/// Whether two words are a prompt: those in brackets, or the sign apart.
+#[tactic(auto, unfolding(crate::specs::Plain::is_long_prompt))]
+fn is_long_prompt(first: &[u8], second: &[u8]) -> bool
+    ensures { result ≡ is_long_prompt first.now second.now }
 {
-    let [b'[', ..] = first_word(octets) else {
-        return false;
-    };
-    let second = first_word(next_word(octets));
-    second.ends_with(b"]#") || second.ends_with(b"]$")
+    if let [b'[', ..] = first
+        && (second.ends_with(b"]#") || second.ends_with(b"]$"))
+    {
+        return true;
+    }
+    tells_host(first) && second.len() == 1 && ends_with_sign(second)
+}
+
+/// Whether there is a prompt of two words in front.
+fn has_long_prompt(octets: &[u8]) -> bool
+    ensures { result ≡ has_long_prompt octets.now }
+{
+    is_long_prompt(first_word(octets), first_word(next_word(octets)))
 }
 
 /// Whether there is a prompt in front.
@@ -32,7 +54,7 @@ fn is_bracketed(octets: &[u8]) -> bool
 pub(crate) fn has_prompt(octets: &[u8]) -> bool
     ensures { result ≡ has_prompt octets.now }
 {
-    is_prompt(first_word(octets)) || is_bracketed(octets)
+    is_prompt(first_word(octets)) || has_long_prompt(octets)
 }
 
 /// What comes behind a prompt, where there is one.
@@ -42,7 +64,7 @@ pub(crate) fn past_prompt(octets: &[u8]) -> &[u8]
 {
     if is_prompt(first_word(octets)) {
         next_word(octets)
-    } else if is_bracketed(octets) {
+    } else if has_long_prompt(octets) {
         next_word(next_word(octets))
     } else {
         octets
@@ -108,4 +130,23 @@ pub(crate) fn command(octets: &[u8]) -> &[u8]
     ensures { result.now ≡ command octets.now }
 {
     past_sudo(past_prompt(octets))
+}
+
+/// Whether there is the prompt of a line that is joined to another one.
+pub(crate) fn has_more_prompt(octets: &[u8]) -> bool
+    ensures { result ≡ has_more_prompt octets.now }
+{
+    first_word(octets) == b">".as_slice()
+}
+
+/// What comes behind the prompt of a line that is joined to another one, where there is one.
+#[tactic(auto, unfolding(crate::specs::Plain::past_more_prompt))]
+pub(crate) fn past_more_prompt(octets: &[u8]) -> &[u8]
+    ensures { result.now ≡ past_more_prompt octets.now }
+{
+    if has_more_prompt(octets) {
+        next_word(octets)
+    } else {
+        octets
+    }
 }

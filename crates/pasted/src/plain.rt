@@ -5,7 +5,7 @@ ghost use Rattle.pasted.specs.Plain.{begins_command, has_mark, is_of_command, pl
 ghost use Rattle.pasted.specs.Notes.{has_blanks, has_semicolon, marks_of_command, marks_of_more, marks_of_part, text_marks};
 
 use crate::ends::{body, is_joined, put_ending};
-use crate::fronts::{command, has_prompt, has_sudo, is_command, past_prompt};
+use crate::fronts::{command, has_more_prompt, has_prompt, has_sudo, is_command, past_more_prompt, past_prompt};
 use crate::note::Marks;
 use crate::place::{Place, place_behind};
 use crate::quotes::put_unquoted;
@@ -114,9 +114,11 @@ pub(crate) fn put_more<A: Allocator>(
     ensures text { IfOk result (λ _. out.new.items ≡ out.old.items ++ plain_more line.now) }
     ensures marks { IfOk result (λ marks. marks ≡ marks_of_more line.now) }
 {
-    let quotes = put_unquoted(body(line), out)?;
+    let text = body(line);
+    let quotes = put_unquoted(past_more_prompt(text), out)?;
     put_ending(line, out)?;
     Ok(Marks {
+        prompt: has_more_prompt(text),
         blanks: has_blanks(line),
         quotes,
         semicolon: has_semicolon(line),
