@@ -29,3 +29,16 @@ pub trait Translation {
             IsDone meaning self.new octets.now is_last count out.new.items) }
         ensures failed { OnErr result (self.new ≡ self.old) };
 }
+
+impl<T: Translation> Translation for &mut T {
+    ghost meaning = { λ lent. T.meaning lent.now };
+
+    fn turn<A: Allocator>(
+        &mut self,
+        octets: &[u8],
+        is_last: bool,
+        out: &mut Vec<u8, A>,
+    ) -> Result<usize, AllocError> {
+        (**self).turn(octets, is_last, out)
+    }
+}
