@@ -1,0 +1,40 @@
+-- What a contract sees of a translation that is under way.
+use Rattle.std.specs.Prelude.{◌≡◌, ℕ, List, [], ◌++◌, drop, Bool, true, None}
+use Rattle.pcapng.specs.declared.fault.Note.{Note}
+use Rattle.pcapng.specs.declared.stage.Stage.TheVariants.{Blocks}
+use Rattle.pcapng.specs.declared.to_classic.PcapngToClassic.{PcapngToClassic}
+use Rattle.pcapng.specs.Classic.{Reading, all_of, header_put}
+use Rattle.pcapng.specs.Steps.{Ran, after}
+use Rattle.translated.specs.Outlook.{IsAfter}
+
+-- how far it has read
+abbrev pub reading : PcapngToClassic → Reading
+reading t = record {
+  stage = t.stage;
+  section = t.section;
+  interfaces = t.interfaces.items;
+  number = t.number;
+  place = t.place;
+  noted = t.noted;
+}
+
+-- before the first octet
+abbrev pub start : Reading
+start = record { stage = Blocks; section = None; interfaces = []; number = 0; place = 0; noted = record { fault = None; rounded = 0 } }
+
+-- what is noted so far
+abbrev pub note_of : PcapngToClassic → Note
+note_of t = t.noted
+
+-- what all octets that are still to come are turned into
+abbrev pub classic_of : PcapngToClassic → List ℕ → List ℕ
+classic_of t octets = header_put t.has_header ++ (all_of (reading t) octets).put
+
+-- what is noted once they all came
+abbrev pub note_after : PcapngToClassic → List ℕ → Note
+note_after t octets = (all_of (reading t) octets).last.noted
+
+-- Some of the octets in hand were taken: whatever comes later, what was put by then and what follows are what they were to be.
+abbrev pub GoesOn : Reading → Reading → List ℕ → Bool → ℕ → List ℕ → List ℕ → Type 0
+GoesOn old new octets is_last count put_before put = (later : List ℕ) → IsAfter is_last later
+    → after put_before (all_of old (octets ++ later)) ≡ after put (all_of new (drop count octets ++ later))
