@@ -1,0 +1,4 @@
+pub mod BlockLaws
+pub mod OptionLaws
+pub mod ReadingLaws
+pub mod StepLaws

@@ -1,5 +1,5 @@
 -- What the first block of octets is.
-use Rattle.std.specs.Prelude.{◌≤◌, ◌<◌, ℕ, ◌+◌, ◌-◌, List, length, take, drop, Option, Some, None, Result, Ok, Err, nat_lt, nat_le, ◌==◌, if◌then◌else◌}
+use Rattle.std.specs.Prelude.{⊤, ◌≤◌, ◌<◌, ℕ, ◌+◌, ◌-◌, List, length, take, drop, Option, Some, None, Result, Ok, Err, nat_lt, nat_le, ◌==◌, if◌then◌else◌}
 use Rattle.capture.specs.declared.format.Endian.{Endian}
 use Rattle.capture.specs.declared.format.TheConstants.{MAX_RECORD_OCTETS}
 use Rattle.capture.specs.Numbers.{u16_at, u32_at}
@@ -16,7 +16,7 @@ use Rattle.pcapng.specs.declared.interface.Interface.{Interface}
 use Rattle.pcapng.specs.declared.packet.Packet.{Packet}
 use Rattle.pcapng.specs.Blocks.{head_of}
 use Rattle.pcapng.specs.Interfaces.{interface_of}
-use Rattle.pcapng.specs.Packets.{enhanced_packet, obsolete_packet, simple_packet}
+use Rattle.pcapng.specs.Packets.{enhanced_packet, obsolete_packet, simple_packet, IsFramed}
 
 -- a section of version 1 begins (4.1)
 abbrev pub section_of : Endian → List ℕ → Result Content BlockKind
@@ -70,3 +70,21 @@ found_with (Err kind) interfaces octets = Err kind
 abbrev pub found : Option Endian → List Interface → List ℕ → Result Found BlockKind
 found section interfaces octets =
     if nat_lt (length octets) 12 then Err ShortBlock else found_with (head_of section octets) interfaces octets
+
+-- what a block of so many octets has in it fits it, where its section has so many interfaces
+abbrev pub IsContent : ℕ → ℕ → Content → Type 0
+IsContent interfaces size Section = ⊤
+IsContent interfaces size (Described i) = interfaces < MAX_INTERFACES
+IsContent interfaces size (Framed p) = IsFramed size p
+IsContent interfaces size Passed = ⊤
+
+-- how many octets have to be there: all of a block that is read
+abbrev pub asked_of : ℕ → Content → ℕ
+asked_of size Passed = 12
+asked_of size _ = size
+
+-- a block that is found among so many octets
+pub record IsFound (interfaces octets : ℕ) (f : Found) : Type 0 where
+  pub content_fits : IsContent interfaces f.length f.content
+  pub least : 12 ≤ f.length
+  pub there : asked_of f.length f.content ≤ octets

@@ -1,5 +1,5 @@
 -- Packets (draft-ietf-opsawg-pcapng, 4.3, 4.4 and Appendix A).
-use Rattle.std.specs.Prelude.{ℕ, ◌+◌, ◌-◌, ◌*◌, ◌/◌, ◌%◌, ◌^◌, List, length, drop, min, Option, Some, None, Result, Ok, Err, Bool, false, nat_lt, slice_get, ◌==◌, not, if◌then◌else◌}
+use Rattle.std.specs.Prelude.{◌≡◌, ◌≤◌, ◌<◌, ℕ, ◌+◌, ◌-◌, ◌*◌, ◌/◌, ◌%◌, ◌^◌, List, length, drop, min, Option, Some, None, Result, Ok, Err, Bool, false, nat_lt, slice_get, ◌==◌, not, if◌then◌else◌}
 use Rattle.capture.specs.declared.format.Endian.{Endian}
 use Rattle.capture.specs.declared.format.TheConstants.{MAX_RECORD_OCTETS}
 use Rattle.capture.specs.Numbers.{u16_at, u32_at}
@@ -101,3 +101,11 @@ obsolete_packet endian interfaces block =
 
 abbrev pub simple_packet : Endian → List Interface → List ℕ → Result Packet BlockKind
 simple_packet endian interfaces block = packet_of (slice_get interfaces 0) (simple_fields endian block)
+
+-- what a packet keeps of what its block says
+abbrev pub IsPacketOf : Fields → Packet → Type 0
+IsPacketOf f p = (p.start ≡ f.start) × (p.captured ≤ f.room) × (p.moment < 4294967296000000000)
+
+-- the octets of a packet stand in a block of so many octets, and a classic capture can say its moment
+abbrev pub IsFramed : ℕ → Packet → Type 0
+IsFramed size p = (p.start + p.captured ≤ size) × (p.moment < 4294967296000000000)

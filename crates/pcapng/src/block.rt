@@ -2,7 +2,8 @@
 
 ghost use Rattle.std.specs.Prelude.{◌≡◌, ◌≤◌, ◌<◌, ◌^◌, length, take, Some, IfOk, IsOk};
 ghost use Rattle.pcapng.specs.Blocks.{kind_of, fewest_octets, order_said, order_for, checked_head, head_of};
-ghost use Rattle.pcapng.specs.Found.{section_of, description_of, framed, content_of, whole_block, found_by, found};
+ghost use Rattle.pcapng.specs.Found.{section_of, description_of, framed, content_of};
+ghost use Rattle.pcapng.specs.Found.{whole_block, found_by, found, IsContent, IsFound};
 
 use crate::fault::BlockKind;
 use crate::interface::{Interface, interface_of};
@@ -221,7 +222,8 @@ fn whole_block(
 ) -> Result<Found, BlockKind>
     requires least { fewest_octets (Some kind) ≤ head.length }
     requires whole { length block.now ≡ head.length }
-    ensures { result ≡ whole_block kind head interfaces.now block.now }
+    ensures found { result ≡ whole_block kind head interfaces.now block.now }
+    ensures fits { IfOk result (λ f. IsFound (length interfaces.now) (length block.now) f) }
 {
     let end = block.len() - 4;
     if read_u32(head.endian, &block[end..]) != head.length {
@@ -239,8 +241,10 @@ fn whole_block(
 
 /// What a block with this front is.
 fn found_by(head: Head, interfaces: &[Interface], octets: &[u8]) -> Result<Found, BlockKind>
-    requires { fewest_octets head.kind ≤ head.length }
-    ensures { result ≡ found_by head.kind head interfaces.now octets.now }
+    requires least { fewest_octets head.kind ≤ head.length }
+    requires some { 12 ≤ length octets.now }
+    ensures found { result ≡ found_by head.kind head interfaces.now octets.now }
+    ensures fits { IfOk result (λ f. IsFound (length interfaces.now) (length octets.now) f) }
 {
     let size = head.length as usize;
     match head.kind {
@@ -261,7 +265,8 @@ pub(crate) fn find(
     interfaces: &[Interface],
     octets: &[u8],
 ) -> Result<Found, BlockKind>
-    ensures { result ≡ found section interfaces.now octets.now }
+    ensures found { result ≡ found section interfaces.now octets.now }
+    ensures fits { IfOk result (λ f. IsFound (length interfaces.now) (length octets.now) f) }
 {
     if octets.len() < 12 {
         return Err(BlockKind::ShortBlock);

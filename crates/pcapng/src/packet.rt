@@ -1,9 +1,9 @@
 //! Packets, as their blocks say them.
 
-ghost use Rattle.std.specs.Prelude.{◌≡◌, ◌≤◌, ◌<◌, ◌*◌, ◌==◌, ◌%◌, not, length, slice_get, option_map};
-ghost use Rattle.pcapng.specs.Packets.{ticks_of_second, nanoseconds_of, is_part_left, early, with_offset, moment_of, is_rounded};
-ghost use Rattle.pcapng.specs.Packets.{captured_of, packet_with, packet_of, stamped_fields, simple_fields};
-ghost use Rattle.pcapng.specs.Packets.{enhanced_packet, obsolete_packet, simple_packet};
+ghost use Rattle.std.specs.Prelude.{◌≡◌, ◌≤◌, ◌<◌, ◌^◌, length, slice_get, IfSome, IfNone, IfOk};
+ghost use Rattle.pcapng.specs.Packets.{ticks_of_second, nanoseconds_of, is_part_left, early, with_offset, moment_of};
+ghost use Rattle.pcapng.specs.Packets.{is_rounded, captured_of, packet_with, packet_of, stamped_fields, IsPacketOf};
+ghost use Rattle.pcapng.specs.Packets.{enhanced_packet, obsolete_packet, simple_packet, IsFramed};
 
 use crate::fault::BlockKind;
 use crate::interface::Interface;
@@ -71,6 +71,7 @@ fn ticks_of_second(resolution: u8) -> Option<u128>
 #[inline(never)]
 fn divided(resolution: u8, ticks: u64) -> (u128, bool)
     ensures whole { result.0 ≡ nanoseconds_of resolution ticks }
+    ensures bound { result.0 < 2 ^ 94 }
     ensures part { result.1 ≡ is_part_left resolution ticks }
 {
     let scaled = u128::from(ticks) * SECOND;
@@ -83,6 +84,7 @@ fn divided(resolution: u8, ticks: u64) -> (u128, bool)
 /// The same, at once for nanoseconds and microseconds.
 fn nanoseconds(resolution: u8, ticks: u64) -> (u128, bool)
     ensures whole { result.0 ≡ nanoseconds_of resolution ticks }
+    ensures bound { result.0 < 2 ^ 94 }
     ensures part { result.1 ≡ is_part_left resolution ticks }
 {
     match resolution {
@@ -94,7 +96,8 @@ fn nanoseconds(resolution: u8, ticks: u64) -> (u128, bool)
 
 /// A moment where a classic capture can say it.
 fn early(moment: u128) -> Option<u64>
-    ensures { result ≡ early moment }
+    ensures moment { result ≡ early moment }
+    ensures early { IfSome result (λ m. m < 4294967296000000000) }
 {
     if moment < END { Some(moment as u64) } else { None }
 }
@@ -102,7 +105,8 @@ fn early(moment: u128) -> Option<u64>
 /// A moment, and the seconds of an offset.
 fn with_offset(moment: u128, offset: u64) -> Option<u64>
     requires { moment < 2 ^ 94 }
-    ensures { result ≡ with_offset moment offset }
+    ensures moment { result ≡ with_offset moment offset }
+    ensures early { IfSome result (λ m. m < 4294967296000000000) }
 {
     if offset < 0x8000_0000_0000_0000 {
         return early(moment + u128::from(offset) * SECOND);
@@ -129,6 +133,7 @@ fn captured_of(captured: Option<u32>, snap: u32, original: u32) -> u32
 fn moment_of(interface: Interface, ticks: Option<u64>) -> (Option<u64>, bool)
     ensures moment { result.0 ≡ moment_of interface ticks }
     ensures rounded { result.1 ≡ is_rounded interface ticks }
+    ensures early { IfSome result.0 (λ m. m < 4294967296000000000) }
 {
     match ticks {
         Some(ticks) => {
@@ -141,7 +146,8 @@ fn moment_of(interface: Interface, ticks: Option<u64>) -> (Option<u64>, bool)
 
 /// A packet with so many octets captured.
 fn packet_with(interface: Interface, captured: u32, fields: Fields) -> Result<Packet, BlockKind>
-    ensures { result ≡ packet_with interface captured fields }
+    ensures packet { result ≡ packet_with interface captured fields }
+    ensures within { IfOk result (λ p. IsPacketOf fields p) }
 {
     if captured > MAX_RECORD_OCTETS {
         return Err(BlockKind::LongRecord);
@@ -163,7 +169,8 @@ fn packet_with(interface: Interface, captured: u32, fields: Fields) -> Result<Pa
 
 /// A packet of the interface with this number.
 fn packet_of(interfaces: &[Interface], number: usize, fields: Fields) -> Result<Packet, BlockKind>
-    ensures { result ≡ packet_of (slice_get interfaces.now number) fields }
+    ensures packet { result ≡ packet_of (slice_get interfaces.now number) fields }
+    ensures within { IfOk result (λ p. IsPacketOf fields p) }
 {
     let Some(&interface) = interfaces.get(number) else {
         return Err(BlockKind::NoInterface);
@@ -196,7 +203,8 @@ fn stamped_fields(endian: Endian, block: &[u8]) -> Fields
 pub(crate) fn enhanced_packet(endian: Endian, interfaces: &[Interface], block: &[u8]) -> Result<Packet, BlockKind>
     requires least { 32 ≤ length block.now }
     requires most { length block.now < 2 ^ 32 }
-    ensures { result ≡ enhanced_packet endian interfaces.now block.now }
+    ensures packet { result ≡ enhanced_packet endian interfaces.now block.now }
+    ensures within { IfOk result (λ p. IsFramed (length block.now) p) }
 {
     let number = read_u32(endian, &block[8..]) as usize;
     packet_of(interfaces, number, stamped_fields(endian, block))
@@ -206,7 +214,8 @@ pub(crate) fn enhanced_packet(endian: Endian, interfaces: &[Interface], block: &
 pub(crate) fn obsolete_packet(endian: Endian, interfaces: &[Interface], block: &[u8]) -> Result<Packet, BlockKind>
     requires least { 32 ≤ length block.now }
     requires most { length block.now < 2 ^ 32 }
-    ensures { result ≡ obsolete_packet endian interfaces.now block.now }
+    ensures packet { result ≡ obsolete_packet endian interfaces.now block.now }
+    ensures within { IfOk result (λ p. IsFramed (length block.now) p) }
 {
     let number = usize::from(read_u16(endian, &block[8..]));
     packet_of(interfaces, number, stamped_fields(endian, block))
@@ -216,7 +225,8 @@ pub(crate) fn obsolete_packet(endian: Endian, interfaces: &[Interface], block: &
 pub(crate) fn simple_packet(endian: Endian, interfaces: &[Interface], block: &[u8]) -> Result<Packet, BlockKind>
     requires least { 16 ≤ length block.now }
     requires most { length block.now < 2 ^ 32 }
-    ensures { result ≡ simple_packet endian interfaces.now block.now }
+    ensures packet { result ≡ simple_packet endian interfaces.now block.now }
+    ensures within { IfOk result (λ p. IsFramed (length block.now) p) }
 {
     let fields = Fields {
         ticks: None,

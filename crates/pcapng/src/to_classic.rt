@@ -1,10 +1,12 @@
 //! A capture in pcapng as a classic one.
 
-ghost use Rattle.std.specs.Prelude.{◌≡◌, ◌≤◌, ◌<◌, ◌++◌, [], true, length, IfOk, OnErr};
+ghost use Rattle.std.specs.Prelude.{◌≡◌, ◌≤◌, ◌<◌, ◌+◌, ◌*◌, ◌++◌, [], true, false, length, Err, IfOk, OnOk, OnErr};
 ghost use Rattle.capture.specs.CaptureWriter.{written_format, written_header};
 ghost use Rattle.capture.specs.Layout.{spelled_record_header};
 ghost use Rattle.translated.specs.Outlook.{IsTurned, IsDone, IsAfter};
-ghost use Rattle.pcapng.specs.Classic.{Reading, all_of, past, failed, content_taken, record_of};
+ghost use Rattle.pcapng.specs.Classic.{past, fails, content_taken, record_of, with_rounded};
+ghost use Rattle.pcapng.specs.Packets.{IsFramed};
+ghost use Rattle.pcapng.specs.Found.{IsFound};
 
 use crate::block::{Content, Found, MAX_INTERFACES, find};
 use crate::fault::{BlockFault, BlockKind, Note};
@@ -54,4 +56,224 @@ fn record_header(packet: &Packet) -> [u8; 16]
     LittleEndian::write_u32(&mut header[8..], packet.captured);
     LittleEndian::write_u32(&mut header[12..], packet.original);
     header
+}
+
+/// Puts a packet as a record. When out of memory, nothing is put.
+fn put_packet<A: Allocator>(
+    packet: &Packet,
+    octets: &[u8],
+    out: &mut Vec<u8, A>,
+) -> Result<(), AllocError>
+    requires framed { IsFramed (length octets.now) packet.now }
+    ensures put { OnOk result
+        (out.new.items ≡ out.old.items ++ record_of packet.now octets.now) }
+    ensures failed { OnErr result (out.new.items ≡ out.old.items) }
+{
+    let start = packet.start as usize;
+    let end = start + packet.captured as usize;
+    let header = record_header(packet);
+    out.reserve(header.len() + (end - start))?;
+    if out.extend_from_slice(&header).is_err() {
+        unreachable!();
+    }
+    if out.extend_from_slice(&octets[start..end]).is_err() {
+        unreachable!();
+    }
+    Ok(())
+}
+
+impl PcapngToClassic {
+    ghost use Rattle.pcapng.specs.Reader.{reading, start, note_of, Takes, GoesOn, IsOver};
+
+    /// Before the first octet.
+    pub fn new() -> PcapngToClassic
+        ensures reading { reading result ≡ start }
+        ensures header { result.has_header ≡ false }
+    {
+        PcapngToClassic {
+            has_header: false,
+            stage: Stage::Blocks,
+            section: None,
+            interfaces: ArrayVec::new(),
+            number: 0,
+            place: 0,
+            noted: Note {
+                fault: None,
+                rounded: 0,
+            },
+        }
+    }
+
+    /// What is noted so far.
+    pub fn note(&self) -> Note
+        ensures { result ≡ note_of self.now }
+    {
+        self.noted
+    }
+
+    /// A block of so many octets ends.
+    fn pass(&mut self, size: u32)
+        ensures reading { reading self.new ≡ past (reading self.old) size }
+        ensures header { self.new.has_header ≡ self.old.has_header }
+    {
+        self.stage = Stage::Blocks;
+        self.number = self.number.saturating_add(1);
+        self.place = self.place.saturating_add(u64::from(size));
+    }
+
+    /// One more moment was rounded.
+    fn note_rounded(&mut self, is_rounded: bool)
+        ensures reading { reading self.new ≡ with_rounded is_rounded (reading self.old) }
+        ensures header { self.new.has_header ≡ self.old.has_header }
+    {
+        if is_rounded {
+            self.noted.rounded = self.noted.rounded.saturating_add(1);
+        }
+    }
+
+    /// The block is faulty: an octet is put that no record ends with, and nothing is read any more.
+    fn fail<A: Allocator>(
+        &mut self,
+        kind: BlockKind,
+        octets: &[u8],
+        out: &mut Vec<u8, A>,
+    ) -> Result<usize, AllocError>
+        ensures taken { IfOk result (λ count. Takes (fails (reading self.old) kind octets.now)
+            count out.old.items out.new.items self.old self.new) }
+        ensures failed { OnErr result (self.new ≡ self.old) }
+        ensures nothing { OnErr result (out.new.items ≡ out.old.items) }
+    {
+        out.push(0)?;
+        self.stage = Stage::Ended;
+        self.noted.fault = Some(BlockFault {
+            number: self.number,
+            at: self.place,
+            kind,
+        });
+        Ok(octets.len())
+    }
+
+    /// Takes a block that was found.
+    fn take<A: Allocator>(
+        &mut self,
+        found: &Found,
+        octets: &[u8],
+        out: &mut Vec<u8, A>,
+    ) -> Result<usize, AllocError>
+        requires { IsFound (length self.old.interfaces.items) (length octets.now) found.now }
+        ensures taken { let f = found.now in IfOk result (λ count.
+            Takes (content_taken (reading self.old) octets.now f.endian f.length f.content)
+            count out.old.items out.new.items self.old self.new) }
+        ensures failed { OnErr result (self.new ≡ self.old) }
+        ensures nothing { OnErr result (out.new.items ≡ out.old.items) }
+    {
+        match &found.content {
+            Content::Section => {
+                self.section = Some(found.endian);
+                self.interfaces.clear();
+            }
+            Content::Described(interface) => self.interfaces.push(*interface),
+            Content::Framed(packet) => {
+                put_packet(packet, octets, out)?;
+                self.note_rounded(packet.is_rounded);
+            }
+            Content::Passed => {
+                self.stage = Stage::Passing(Passage {
+                    endian: found.endian,
+                    left: found.length - 12,
+                    length: found.length,
+                });
+                return Ok(8);
+            }
+        }
+        self.pass(found.length);
+        Ok(found.length as usize)
+    }
+
+    /// Takes the first block, or its front where it is passed over.
+    fn take_block<A: Allocator>(
+        &mut self,
+        octets: &[u8],
+        is_last: bool,
+        out: &mut Vec<u8, A>,
+    ) -> Result<usize, AllocError>
+        requires { self.old.stage ≡ Stage.Blocks }
+        ensures count { IfOk result (λ count. count ≤ length octets.now) }
+        ensures goes_on { IfOk result (λ count. GoesOn (reading self.old) (reading self.new)
+            octets.now is_last count out.old.items out.new.items) }
+        ensures header { self.new.has_header ≡ self.old.has_header }
+        ensures done { IfOk result (λ count. IsOver (reading self.new) octets.now is_last count
+            out.old.items out.new.items) }
+        ensures failed { OnErr result (self.new ≡ self.old) }
+        ensures nothing { OnErr result (out.new.items ≡ out.old.items) }
+    {
+        if octets.is_empty() && (!is_last || self.section.is_some()) {
+            return Ok(0);
+        }
+        match find(self.section, self.interfaces.as_slice(), octets) {
+            Ok(found) => self.take(&found, octets, out),
+            Err(kind) if is_last || kind != BlockKind::ShortBlock => self.fail(kind, octets, out),
+            Err(_) => Ok(0),
+        }
+    }
+
+    /// Takes what is left of a block that is passed over, or a part of it.
+    fn take_rest<A: Allocator>(
+        &mut self,
+        passage: Passage,
+        octets: &[u8],
+        is_last: bool,
+        out: &mut Vec<u8, A>,
+    ) -> Result<usize, AllocError>
+        requires { self.old.stage ≡ Stage.Passing passage }
+        ensures count { IfOk result (λ count. count ≤ length octets.now) }
+        ensures goes_on { IfOk result (λ count. GoesOn (reading self.old) (reading self.new)
+            octets.now is_last count out.old.items out.new.items) }
+        ensures header { self.new.has_header ≡ self.old.has_header }
+        ensures done { IfOk result (λ count. IsOver (reading self.new) octets.now is_last count
+            out.old.items out.new.items) }
+        ensures failed { OnErr result (self.new ≡ self.old) }
+        ensures nothing { OnErr result (out.new.items ≡ out.old.items) }
+    {
+        let left = passage.left as usize;
+        if octets.len() >= left + 4 {
+            if read_u32(passage.endian, &octets[left..]) != passage.length {
+                return self.fail(BlockKind::BadLength, octets, out);
+            }
+            self.pass(passage.length);
+            return Ok(left + 4);
+        }
+        if is_last {
+            return self.fail(BlockKind::ShortBlock, octets, out);
+        }
+        let count = octets.len().min(left);
+        self.stage = Stage::Passing(Passage {
+            left: passage.left - count as u32,
+            ..passage
+        });
+        Ok(count)
+    }
+
+    /// Takes what comes first, as far as it is in hand.
+    fn advance<A: Allocator>(
+        &mut self,
+        octets: &[u8],
+        is_last: bool,
+        out: &mut Vec<u8, A>,
+    ) -> Result<usize, AllocError>
+        ensures count { IfOk result (λ count. count ≤ length octets.now) }
+        ensures goes_on { IfOk result (λ count. GoesOn (reading self.old) (reading self.new)
+            octets.now is_last count out.old.items out.new.items) }
+        ensures header { self.new.has_header ≡ self.old.has_header }
+        ensures done { IfOk result (λ count. IsOver (reading self.new) octets.now is_last count
+            out.old.items out.new.items) }
+        ensures failed { OnErr result (self.new ≡ self.old) }
+        ensures nothing { OnErr result (out.new.items ≡ out.old.items) }
+    {
+        match self.stage {
+            Stage::Blocks => self.take_block(octets, is_last, out),
+            Stage::Passing(passage) => self.take_rest(passage, octets, is_last, out),
+            Stage::Ended => Ok(octets.len()),
+        }
+    }
 }
