@@ -1,5 +1,5 @@
 -- What the first block of octets is.
-use Rattle.std.specs.Prelude.{⊤, ◌≤◌, ◌<◌, ℕ, ◌+◌, ◌-◌, List, length, take, drop, Option, Some, None, Result, Ok, Err, nat_lt, nat_le, ◌==◌, if◌then◌else◌}
+use Rattle.std.specs.Prelude.{⊤, ◌≤◌, ◌<◌, ℕ, ◌+◌, ◌-◌, List, length, take, drop, Bool, true, false, Option, Some, None, Result, Ok, Err, nat_lt, nat_le, ◌==◌, if◌then◌else◌}
 use Rattle.capture.specs.declared.format.Endian.{Endian}
 use Rattle.capture.specs.declared.format.TheConstants.{MAX_RECORD_OCTETS}
 use Rattle.capture.specs.Numbers.{u16_at, u32_at}
@@ -88,3 +88,8 @@ pub record IsFound (interfaces octets : ℕ) (f : Found) : Type 0 where
   pub content_fits : IsContent interfaces f.length f.content
   pub least : 12 ≤ f.length
   pub there : asked_of f.length f.content ≤ octets
+
+-- more of the block is wanted
+abbrev pub is_short : BlockKind → Bool
+is_short ShortBlock = true
+is_short _ = false

@@ -1,5 +1,5 @@
 -- Interfaces, as a section describes them (draft-ietf-opsawg-pcapng, 4.2).
-use Rattle.std.specs.Prelude.{ℕ, ◌+◌, ◌-◌, ◌*◌, ◌/◌, List, [], ◌∷◌, length, take, drop, Result, Ok, Err, nat_lt, slice_index, ◌==◌, if◌then◌else◌}
+use Rattle.std.specs.Prelude.{ℕ, ◌+◌, ◌-◌, ◌*◌, ◌/◌, List, [], ◌∷◌, length, take, drop, Result, Ok, Err, nat_lt, slice_index, slice_range, ◌==◌, if◌then◌else◌}
 use Rattle.capture.specs.declared.format.Endian.{Endian}
 use Rattle.capture.specs.Numbers.{u16_at, u32_at}
 use Rattle.pcapng.specs.declared.fault.BlockKind.{BlockKind}
@@ -50,4 +50,4 @@ plain_interface link snap = record { link = link; snap = snap; resolution = 6; o
 -- the interface that a whole block describes: its link type, 2 octets of nothing, its snap length, its options
 abbrev pub interface_of : Endian → List ℕ → Result Interface BlockKind
 interface_of endian block = with_options endian (plain_interface (u16_at endian (drop 8 block)) (u32_at endian (drop 12 block)))
-    (drop 16 (take (length block - 4) block))
+    (slice_range block 16 (length block - 4))

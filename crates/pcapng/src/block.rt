@@ -3,7 +3,7 @@
 ghost use Rattle.std.specs.Prelude.{◌≡◌, ◌≤◌, ◌<◌, ◌^◌, length, take, Some, IfOk, IsOk};
 ghost use Rattle.pcapng.specs.Blocks.{kind_of, fewest_octets, order_said, order_for, checked_head, head_of};
 ghost use Rattle.pcapng.specs.Found.{section_of, description_of, framed, content_of};
-ghost use Rattle.pcapng.specs.Found.{whole_block, found_by, found, IsContent, IsFound};
+ghost use Rattle.pcapng.specs.Found.{whole_block, found_by, found, is_short, IsContent, IsFound};
 
 use crate::fault::BlockKind;
 use crate::interface::{Interface, interface_of};
@@ -275,4 +275,11 @@ pub(crate) fn find(
         Ok(head) => found_by(head, interfaces, octets),
         Err(kind) => Err(kind),
     }
+}
+
+/// Whether more of the block is wanted.
+pub(crate) fn is_short(kind: BlockKind) -> bool
+    ensures { result ≡ is_short kind }
+{
+    matches!(kind, BlockKind::ShortBlock)
 }

@@ -8,7 +8,7 @@ ghost use Rattle.pcapng.specs.Classic.{past, fails, content_taken, record_of, wi
 ghost use Rattle.pcapng.specs.Packets.{IsFramed};
 ghost use Rattle.pcapng.specs.Found.{IsFound};
 
-use crate::block::{Content, Found, MAX_INTERFACES, find};
+use crate::block::{Content, Found, MAX_INTERFACES, find, is_short};
 use crate::fault::{BlockFault, BlockKind, Note};
 use crate::interface::Interface;
 use crate::number::read_u32;
@@ -197,7 +197,8 @@ impl PcapngToClassic {
         is_last: bool,
         out: &mut Vec<u8, A>,
     ) -> Result<usize, AllocError>
-        requires { self.old.stage ≡ Stage.Blocks }
+        requires blocks { self.old.stage ≡ Stage.Blocks }
+        requires some { 1 ≤ length octets.now }
         ensures count { IfOk result (λ count. count ≤ length octets.now) }
         ensures goes_on { IfOk result (λ count. GoesOn (reading self.old) (reading self.new)
             octets.now is_last count out.old.items out.new.items) }
@@ -207,14 +208,37 @@ impl PcapngToClassic {
         ensures failed { OnErr result (self.new ≡ self.old) }
         ensures nothing { OnErr result (out.new.items ≡ out.old.items) }
     {
-        if octets.is_empty() && (!is_last || self.section.is_some()) {
-            return Ok(0);
-        }
         match find(self.section, self.interfaces.as_slice(), octets) {
             Ok(found) => self.take(&found, octets, out),
-            Err(kind) if is_last || kind != BlockKind::ShortBlock => self.fail(kind, octets, out),
-            Err(_) => Ok(0),
+            Err(kind) => {
+                if !is_last && is_short(kind) {
+                    return Ok(0);
+                }
+                self.fail(kind, octets, out)
+            }
         }
+    }
+
+    /// Takes the end between blocks. There is to be one block at least.
+    fn take_end<A: Allocator>(
+        &mut self,
+        is_last: bool,
+        out: &mut Vec<u8, A>,
+    ) -> Result<usize, AllocError>
+        requires { self.old.stage ≡ Stage.Blocks }
+        ensures count { IfOk result (λ count. count ≡ 0) }
+        ensures goes_on { IfOk result (λ count. GoesOn (reading self.old) (reading self.new)
+            [] is_last count out.old.items out.new.items) }
+        ensures header { self.new.has_header ≡ self.old.has_header }
+        ensures done { IfOk result (λ count. IsOver (reading self.new) [] is_last count
+            out.old.items out.new.items) }
+        ensures failed { OnErr result (self.new ≡ self.old) }
+        ensures nothing { OnErr result (out.new.items ≡ out.old.items) }
+    {
+        if !is_last || self.section.is_some() {
+            return Ok(0);
+        }
+        self.fail(BlockKind::ShortBlock, &[], out)
     }
 
     /// Takes what is left of a block that is passed over, or a part of it.
@@ -271,6 +295,7 @@ impl PcapngToClassic {
         ensures nothing { OnErr result (out.new.items ≡ out.old.items) }
     {
         match self.stage {
+            Stage::Blocks if octets.is_empty() => self.take_end(is_last, out),
             Stage::Blocks => self.take_block(octets, is_last, out),
             Stage::Passing(passage) => self.take_rest(passage, octets, is_last, out),
             Stage::Ended => Ok(octets.len()),
