@@ -203,6 +203,8 @@ fn content_of(
     requires least { fewest_octets (Some kind) ≤ length block.now }
     requires most { length block.now < 2 ^ 32 }
     ensures content { result ≡ content_of kind endian interfaces.now block.now }
+    ensures fits { IfOk result (λ content.
+        IsContent (length interfaces.now) (length block.now) content) }
 {
     match kind {
         Kind::SectionHeader => section_of(endian, block),

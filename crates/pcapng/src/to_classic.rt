@@ -241,6 +241,29 @@ impl PcapngToClassic {
         self.fail(BlockKind::ShortBlock, &[], out)
     }
 
+    /// Takes the first block, or the end.
+    fn take_next<A: Allocator>(
+        &mut self,
+        octets: &[u8],
+        is_last: bool,
+        out: &mut Vec<u8, A>,
+    ) -> Result<usize, AllocError>
+        requires { self.old.stage ≡ Stage.Blocks }
+        ensures count { IfOk result (λ count. count ≤ length octets.now) }
+        ensures goes_on { IfOk result (λ count. GoesOn (reading self.old) (reading self.new)
+            octets.now is_last count out.old.items out.new.items) }
+        ensures header { self.new.has_header ≡ self.old.has_header }
+        ensures done { IfOk result (λ count. IsOver (reading self.new) octets.now is_last count
+            out.old.items out.new.items) }
+        ensures failed { OnErr result (self.new ≡ self.old) }
+        ensures nothing { OnErr result (out.new.items ≡ out.old.items) }
+    {
+        if octets.is_empty() {
+            return self.take_end(is_last, out);
+        }
+        self.take_block(octets, is_last, out)
+    }
+
     /// Takes what is left of a block that is passed over, or a part of it.
     fn take_rest<A: Allocator>(
         &mut self,
@@ -295,8 +318,7 @@ impl PcapngToClassic {
         ensures nothing { OnErr result (out.new.items ≡ out.old.items) }
     {
         match self.stage {
-            Stage::Blocks if octets.is_empty() => self.take_end(is_last, out),
-            Stage::Blocks => self.take_block(octets, is_last, out),
+            Stage::Blocks => self.take_next(octets, is_last, out),
             Stage::Passing(passage) => self.take_rest(passage, octets, is_last, out),
             Stage::Ended => Ok(octets.len()),
         }
