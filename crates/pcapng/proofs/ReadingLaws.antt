@@ -8,7 +8,7 @@ use Rattle.capture.specs.Numbers.{u32_at}
 use Rattle.capture.specs.CaptureWriter.{written_format}
 use Rattle.capture.specs.Layout.{spelled_record_header}
 use Rattle.capture.proofs.RecordLemmas.{u32_at-inner}
-use Rattle.translated.specs.Outlook.{IsAfter}
+use Rattle.translated.specs.Outlook.{IsAfter, IsTurned}
 use Rattle.pcapng.specs.declared.fault.BlockKind.{BlockKind}
 use Rattle.pcapng.specs.declared.fault.BlockKind.TheVariants.{ShortBlock, BadLength}
 use Rattle.pcapng.specs.declared.block.Content.{Content}
@@ -18,9 +18,9 @@ use Rattle.pcapng.specs.declared.stage.Passage.{Passage}
 use Rattle.pcapng.specs.declared.stage.Stage.{Stage}
 use Rattle.pcapng.specs.declared.stage.Stage.TheVariants.{Blocks, Passing, Ended}
 use Rattle.pcapng.specs.declared.to_classic.PcapngToClassic.{PcapngToClassic}
-use Rattle.pcapng.specs.Classic.{Reading, past, failed, goes, fails, content_taken, block_taken, rest_taken, end_taken, step_at, step, all_of, record_of}
+use Rattle.pcapng.specs.Classic.{Reading, past, failed, goes, fails, content_taken, block_taken, rest_taken, end_taken, step_at, step, all_of, record_of, header_put}
 use Rattle.pcapng.specs.Found.{found, IsFound, IsContent, asked_of, is_short}
-use Rattle.pcapng.specs.Reader.{reading, Takes, GoesOn, IsOver}
+use Rattle.pcapng.specs.Reader.{reading, Takes, GoesOn, GoesFrom, IsOver, IsNoted, classic_of}
 use Rattle.pcapng.specs.Steps.{Taken, Ran, after, run, run_all}
 use Rattle.pcapng.proofs.BlockLaws.{found-front}
 use Rattle.pcapng.proofs.StepLaws.{run_here, run_piece, after_after}
@@ -280,3 +280,34 @@ none_fails r later is_last e none it last =
 pub end_all : (r : Reading) (endian : Endian) → r.stage ≡ Blocks → r.section ≡ Some endian → all_of r [] ≡ over [] r
 end_all r endian e some =
     ap (λ (t : Taken Reading). over t.put t.state) (ap (λ (s : Stage). step_at s r []) e ∙ ap (end_taken r) some)
+
+-- one more piece from a place on
+pub goes_more : (old mid new : Reading) (octets : List ℕ) (is_last : Bool) (first at n : ℕ) (before now more : List ℕ)
+    → GoesFrom old mid octets is_last first at before now → GoesOn mid new (drop at octets) is_last n now more
+    → GoesFrom old new octets is_last first (at + n) before more
+goes_more old mid new octets is_last first at n before now more a b later last =
+    a later last ∙ b later last ∙ ap (λ (l : List ℕ). after more (all_of new (l ++ later))) (drop-drop n at octets)
+
+-- nothing was taken yet
+pub goes_none : (r : Reading) (octets : List ℕ) (is_last : Bool) (at : ℕ) (before : List ℕ) → GoesFrom r r octets is_last at at before before
+goes_none r octets is_last at before later last = refl
+
+-- a first piece and then more
+pub goes_all : (old mid new : Reading) (octets : List ℕ) (is_last : Bool) (first at : ℕ) (before now more : List ℕ)
+    → GoesOn old mid octets is_last first before now → GoesFrom mid new octets is_last first at now more
+    → GoesOn old new octets is_last at before more
+goes_all old mid new octets is_last first at before now more a b later last = a later last ∙ b later last
+
+-- what was put is the first of what the octets are turned into
+pub turned : (old new : PcapngToClassic) (octets : List ℕ) (is_last : Bool) (n : ℕ) (put : List ℕ) → old.has_header ≡ true → new.has_header ≡ true
+    → GoesOn (reading old) (reading new) octets is_last n [] put → IsTurned classic_of old new octets is_last n put
+turned old new octets is_last n put a b goes later last =
+    let left : classic_of old (octets ++ later) ≡ (all_of (reading old) (octets ++ later)).put =
+    ap (λ (h : Bool). header_put h ++ (all_of (reading old) (octets ++ later)).put) a in
+    let right : classic_of new (drop n octets ++ later) ≡ (all_of (reading new) (drop n octets ++ later)).put =
+    ap (λ (h : Bool). header_put h ++ (all_of (reading new) (drop n octets ++ later)).put) b in
+    left ∙ ap (λ (r : Ran Reading). r.put) (goes later last) ∙ ap (λ (l : List ℕ). put ++ l) (sym right)
+
+pub noted : (old new : PcapngToClassic) (octets : List ℕ) (is_last : Bool) (n : ℕ) (put : List ℕ)
+    → GoesOn (reading old) (reading new) octets is_last n [] put → IsNoted old new octets is_last n
+noted old new octets is_last n put goes later last = ap (λ (r : Ran Reading). r.last.noted) (goes later last)

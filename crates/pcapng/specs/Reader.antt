@@ -50,3 +50,17 @@ pub record Takes (t : Taken Reading) (n : ℕ) (put_before put_now : List ℕ) (
 abbrev pub IsOver : Reading → List ℕ → Bool → ℕ → List ℕ → List ℕ → Type 0
 IsOver r octets is_last count put_before put = is_last ≡ true → count ≡ 0 → put ≡ put_before
     → all_of r octets ≡ record { put = []; last = r }
+
+-- the same from a place in the octets to a later one
+abbrev pub GoesFrom : Reading → Reading → List ℕ → Bool → ℕ → ℕ → List ℕ → List ℕ → Type 0
+GoesFrom old new octets is_last from to put_before put = (later : List ℕ) → IsAfter is_last later
+    → after put_before (all_of old (drop from octets ++ later)) ≡ after put (all_of new (drop to octets ++ later))
+
+-- Some of the octets in hand were taken: whatever comes later, what will be noted is what was to be noted.
+abbrev pub IsNoted : PcapngToClassic → PcapngToClassic → List ℕ → Bool → ℕ → Type 0
+IsNoted old new octets is_last count = (later : List ℕ) → IsAfter is_last later
+    → note_after old (octets ++ later) ≡ note_after new (drop count octets ++ later)
+
+-- where the octets are the last, and nothing was taken or put, all is noted
+abbrev pub IsAllNoted : PcapngToClassic → List ℕ → Bool → ℕ → List ℕ → Type 0
+IsAllNoted new octets is_last count put = is_last ≡ true → count ≡ 0 → put ≡ [] → note_after new octets ≡ note_of new

@@ -1,6 +1,6 @@
 //! A capture in pcapng as a classic one.
 
-ghost use Rattle.std.specs.Prelude.{◌≡◌, ◌≤◌, ◌<◌, ◌+◌, ◌*◌, ◌++◌, [], true, false, length, Err, IfOk, OnOk, OnErr};
+ghost use Rattle.std.specs.Prelude.{◌≡◌, ◌≢◌, ◌≤◌, ◌<◌, ◌+◌, ◌*◌, ◌++◌, [], true, false, length, Err, IfOk, OnOk, OnErr};
 ghost use Rattle.capture.specs.CaptureWriter.{written_format, written_header};
 ghost use Rattle.capture.specs.Layout.{spelled_record_header};
 ghost use Rattle.translated.specs.Outlook.{IsTurned, IsDone, IsAfter};
@@ -83,7 +83,8 @@ fn put_packet<A: Allocator>(
 }
 
 impl PcapngToClassic {
-    ghost use Rattle.pcapng.specs.Reader.{reading, start, note_of, Takes, GoesOn, IsOver};
+    ghost use Rattle.pcapng.specs.Reader.{reading, start, note_of, Takes, GoesOn, GoesFrom, IsOver};
+    ghost use Rattle.pcapng.specs.Reader.{classic_of, IsNoted};
 
     /// Before the first octet.
     pub fn new() -> PcapngToClassic
@@ -322,5 +323,92 @@ impl PcapngToClassic {
             Stage::Passing(passage) => self.take_rest(passage, octets, is_last, out),
             Stage::Ended => Ok(octets.len()),
         }
+    }
+
+    /// Takes what comes behind the first octets, until enough is put or more is wanted. How many octets it took, the first
+    /// ones included. Where it runs out of memory it stops.
+    fn advance_more<A: Allocator>(
+        &mut self,
+        first: usize,
+        octets: &[u8],
+        is_last: bool,
+        out: &mut Vec<u8, A>,
+    ) -> usize
+        requires { first ≤ length octets.now }
+        ensures count { result ≤ length octets.now }
+        ensures some { first ≤ result }
+        ensures goes_on { GoesFrom (reading self.old) (reading self.new) octets.now is_last first
+            result out.old.items out.new.items }
+        ensures header { self.new.has_header ≡ self.old.has_header }
+    {
+        let mut at = first;
+        while at < octets.len() && out.len() < ENOUGH {
+            match self.advance(&octets[at..], is_last, out) {
+                Ok(0) | Err(_) => return at,
+                Ok(count) => at += count,
+            }
+        }
+        at
+    }
+
+    /// Puts the header, once an octet has come or none will come any more.
+    #[tactic(auto, unfolding(capture::specs::Layout::spelled_header))]
+    fn put_header<A: Allocator>(
+        &mut self,
+        octets: &[u8],
+        is_last: bool,
+        out: &mut Vec<u8, A>,
+    ) -> Result<usize, AllocError>
+        requires header { self.old.has_header ≡ false }
+        requires nothing { out.old.items ≡ [] }
+        ensures count { IfOk result (λ count. count ≡ 0) }
+        ensures turned { IfOk result (λ count.
+            IsTurned classic_of self.old self.new octets.now is_last count out.new.items) }
+        ensures noted { IfOk result (λ count.
+            IsNoted self.old self.new octets.now is_last count) }
+        ensures done { IfOk result (λ count. is_last ≡ true → out.new.items ≢ []) }
+        ensures failed { OnErr result (self.new ≡ self.old) }
+    {
+        if octets.is_empty() && !is_last {
+            return Ok(0);
+        }
+        out.extend_from_slice(&CLASSIC_HEADER)?;
+        self.has_header = true;
+        Ok(0)
+    }
+}
+
+impl Translation for PcapngToClassic {
+    ghost use Rattle.pcapng.specs.Reader.{reading, classic_of, IsNoted, IsAllNoted};
+
+    ghost meaning = { classic_of };
+
+    fn turn<A: Allocator>(
+        &mut self,
+        octets: &[u8],
+        is_last: bool,
+        out: &mut Vec<u8, A>,
+    ) -> Result<usize, AllocError>
+        ensures taken { IfOk result (λ count. count ≤ length octets.now) }
+        ensures turned { IfOk result (λ count.
+            IsTurned classic_of self.old self.new octets.now is_last count out.new.items) }
+        ensures done { IfOk result (λ count.
+            IsDone classic_of self.new octets.now is_last count out.new.items) }
+        ensures failed { OnErr result (self.new ≡ self.old) }
+
+        // The note, too, is in the end that of all octets.
+        ensures noted { IfOk result (λ count.
+            IsNoted self.old self.new octets.now is_last count) }
+        ensures all_noted { IfOk result (λ count.
+            IsAllNoted self.new octets.now is_last count out.new.items) }
+    {
+        if !self.has_header {
+            return self.put_header(octets, is_last, out);
+        }
+        let first = self.advance(octets, is_last, out)?;
+        if first == 0 {
+            return Ok(0);
+        }
+        Ok(self.advance_more(first, octets, is_last, out))
     }
 }

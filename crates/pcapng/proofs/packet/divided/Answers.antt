@@ -1,4 +1,4 @@
-use Rattle.std.proofs.Common.{◌≡◌, ◌<◌, ◌*◌, arith}
+use Rattle.std.proofs.Common.{◌<◌, ◌*◌, refl, arith}
 use Rattle.std.proofs.Math.Nat.{mod-eq_of_lt}
 use Rattle.pcapng.specs.Packets.{ticks_of_second}
 use Rattle.pcapng.proofs.packet.divided.Goals as goal

@@ -1,10 +1,10 @@
-use Rattle.std.proofs.Common.{◌≡◌, ◌∙◌, ℕ, List, Bool, true, false, Result, Ok, Err, sym, ap}
-use Rattle.capture.specs.declared.format.Endian.{Endian}
+use Rattle.std.proofs.Common.{◌≡◌, ◌∙◌, List, false, sym, ap}
 use Rattle.pcapng.specs.declared.interface.Interface.{Interface}
 use Rattle.pcapng.specs.Classic.{fails, content_taken}
 use Rattle.pcapng.specs.Found.{found, is_short}
 use Rattle.pcapng.specs.Reader.{reading, Takes, GoesOn}
 use Rattle.pcapng.proofs.ReadingLaws.{if_ok, taken_goes_on, failed_goes_on, block_fails}
+use Rattle.pcapng.proofs.to_classic.PcapngToClassic.take_block.Goals.{else-not-is_last-via-then-not-is_last+else-is_short, else-not-is_last-via-else-not-is_last}
 use Rattle.pcapng.proofs.to_classic.PcapngToClassic.take_block.Goals as goal
 
 pub returns-in-Ok-clause-goes_on : goal.returns-in-Ok-clause-goes_on
