@@ -1,5 +1,5 @@
 -- A block in hand is the first block of what comes.
-use Rattle.std.proofs.Common.{◌≡◌, ℕ, ◌+◌, ◌-◌, ◌≤◌, ◌<◌, Bool, true, false, ltb, List, ◌++◌, length, take, drop, Option, Some, None, Result, Ok, Err, inl, inr, refl, sym, ap, ◌∙◌, arith}
+use Rattle.std.proofs.Common.{◌≡◌, ℕ, ◌≤◌, false, ltb, List, ◌++◌, length, Option, Some, None, Result, Ok, Err, inl, inr, refl, ap, ◌∙◌, arith}
 use Rattle.std.specs.Prelude.{◌≢◌}
 use Rattle.std.proofs.lemmas.List.{take-append-le, length-append}
 use Rattle.std.proofs.lemmas.Bool.{le-ltb, lt-ltb, cases_lt}
@@ -10,7 +10,6 @@ use Rattle.pcapng.specs.declared.fault.BlockKind.{BlockKind}
 use Rattle.pcapng.specs.declared.fault.BlockKind.TheVariants.{ShortBlock}
 use Rattle.pcapng.specs.declared.block.Kind.{Kind}
 use Rattle.pcapng.specs.declared.block.Head.{Head}
-use Rattle.pcapng.specs.declared.block.Found.{Found}
 use Rattle.pcapng.specs.declared.interface.Interface.{Interface}
 use Rattle.pcapng.specs.Blocks.{order_for, head_in, head_of}
 use Rattle.pcapng.specs.Found.{found_by, found_with, found, whole_block}

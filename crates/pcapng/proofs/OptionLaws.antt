@@ -1,10 +1,10 @@
 -- Options are taken one by one.
-use Rattle.std.proofs.Common.{◌≡◌, ℕ, zero, suc, ◌+◌, ◌-◌, ◌≤◌, ◌<◌, List, [], ◌∷◌, ◌++◌, length, drop, Result, Ok, Err, refl, sym, ap, ◌∙◌, arith}
+use Rattle.std.proofs.Common.{◌≡◌, ℕ, zero, suc, ◌-◌, ◌≤◌, ◌<◌, List, [], ◌∷◌, length, drop, Result, Ok, Err, refl, ap, ◌∙◌, arith}
 use Rattle.std.proofs.lemmas.List.{drop_all}
 use Rattle.capture.specs.declared.format.Endian.{Endian}
 use Rattle.pcapng.specs.declared.fault.BlockKind.{BlockKind}
 use Rattle.pcapng.specs.declared.interface.Interface.{Interface}
-use Rattle.pcapng.specs.Steps.{Taken, Ran, run, run_all}
+use Rattle.pcapng.specs.Steps.{Ran, run}
 use Rattle.pcapng.specs.Interfaces.{first_option, next_option, told, with_options}
 use Rattle.pcapng.proofs.StepLaws.{run_here}
 

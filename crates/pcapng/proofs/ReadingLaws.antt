@@ -1,8 +1,8 @@
 -- What is taken of octets in hand is what is taken of all.
-use Rattle.std.proofs.Common.{◌≡◌, ℕ, zero, suc, ◌+◌, ◌-◌, ◌*◌, ◌≤◌, ◌<◌, Bool, true, false, ltb, eqb, List, [], ◌∷◌, ◌++◌, length, take, drop, Option, Some, None, Result, Ok, Err, inl, inr, refl, sym, ap, subst, ◌∙◌, append-nil, arith, length-drop}
+use Rattle.std.proofs.Common.{◌≡◌, ℕ, zero, suc, ◌+◌, ◌-◌, ◌*◌, ◌≤◌, ◌<◌, Bool, true, false, ltb, eqb, List, [], ◌∷◌, ◌++◌, length, take, drop, Some, None, Result, Ok, Err, inl, inr, refl, sym, ap, subst, ◌∙◌, append-nil, arith, length-drop}
 use Rattle.std.specs.Prelude.{◌≢◌, IfOk}
 use Rattle.std.proofs.lemmas.List.{drop-append-le, take-append-le, drop-drop, length-append}
-use Rattle.std.proofs.lemmas.Bool.{le-ltb, lt-ltb, cases_lt, ltb-true, ltb-false, eq-eqb, ne_eqb}
+use Rattle.std.proofs.lemmas.Bool.{le-ltb, lt-ltb, cases_lt, ltb-false, eq-eqb, ne_eqb}
 use Rattle.capture.specs.declared.format.Endian.{Endian}
 use Rattle.capture.specs.Numbers.{u32_at}
 use Rattle.capture.specs.CaptureWriter.{written_format}
@@ -18,10 +18,10 @@ use Rattle.pcapng.specs.declared.stage.Passage.{Passage}
 use Rattle.pcapng.specs.declared.stage.Stage.{Stage}
 use Rattle.pcapng.specs.declared.stage.Stage.TheVariants.{Blocks, Passing, Ended}
 use Rattle.pcapng.specs.declared.to_classic.PcapngToClassic.{PcapngToClassic}
-use Rattle.pcapng.specs.Classic.{Reading, past, failed, goes, fails, content_taken, block_taken, rest_taken, end_taken, step_at, step, all_of, record_of, header_put}
+use Rattle.pcapng.specs.Classic.{Reading, past, failed, goes, fails, content_taken, block_taken, rest_taken, end_taken, step_at, step, all_of, header_put}
 use Rattle.pcapng.specs.Found.{found, IsFound, IsContent, asked_of, is_short}
 use Rattle.pcapng.specs.Reader.{reading, Takes, GoesOn, GoesFrom, IsOver, IsNoted, classic_of}
-use Rattle.pcapng.specs.Steps.{Taken, Ran, after, run, run_all}
+use Rattle.pcapng.specs.Steps.{Taken, Ran, after, run}
 use Rattle.pcapng.proofs.BlockLaws.{found-front}
 use Rattle.pcapng.proofs.StepLaws.{run_here, run_piece, after_after}
 
@@ -311,3 +311,9 @@ turned old new octets is_last n put a b goes later last =
 pub noted : (old new : PcapngToClassic) (octets : List ℕ) (is_last : Bool) (n : ℕ) (put : List ℕ)
     → GoesOn (reading old) (reading new) octets is_last n [] put → IsNoted old new octets is_last n
 noted old new octets is_last n put goes later last = ap (λ (r : Ran Reading). r.last.noted) (goes later last)
+
+-- where the reading is over, nothing is put any more
+pub over_done : (new : PcapngToClassic) (octets : List ℕ) → new.has_header ≡ true → all_of (reading new) octets ≡ record { put = []; last = reading new }
+    → classic_of new octets ≡ []
+over_done new octets a is =
+    ap (λ (h : Bool). header_put h ++ (all_of (reading new) octets).put) a ∙ ap (λ (r : Ran Reading). r.put) is

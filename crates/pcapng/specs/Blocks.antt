@@ -1,11 +1,11 @@
 -- Blocks, and what their first 12 octets say (draft-ietf-opsawg-pcapng, 3.1).
-use Rattle.std.specs.Prelude.{ℕ, ◌-◌, ◌%◌, List, length, take, drop, Option, Some, None, Result, Ok, Err, is_some, nat_lt, nat_le, ◌==◌, not, ◌||◌, ◌&&◌, if◌then◌else◌}
+use Rattle.std.specs.Prelude.{ℕ, ◌%◌, List, drop, Option, Some, None, Result, Ok, Err, is_some, nat_lt, ◌==◌, not, ◌||◌, ◌&&◌, if◌then◌else◌}
 use Rattle.byteorder.specs.Endian.{big_number, little_number}
 use Rattle.capture.specs.declared.format.Endian.{Endian}
 use Rattle.capture.specs.declared.format.Endian.TheVariants.{Big, Little}
-use Rattle.capture.specs.Numbers.{u16_at, u32_at}
+use Rattle.capture.specs.Numbers.{u32_at}
 use Rattle.pcapng.specs.declared.fault.BlockKind.{BlockKind}
-use Rattle.pcapng.specs.declared.fault.BlockKind.TheVariants.{ShortBlock, NotPcapng, BadByteOrder, BadLength, LongRecord, BadVersion, TooManyInterfaces}
+use Rattle.pcapng.specs.declared.fault.BlockKind.TheVariants.{NotPcapng, BadByteOrder, BadLength, LongRecord}
 use Rattle.pcapng.specs.declared.block.Kind.{Kind}
 use Rattle.pcapng.specs.declared.block.Kind.TheVariants.{SectionHeader, Description, Obsolete, Simple, Enhanced}
 use Rattle.pcapng.specs.declared.block.Head.{Head}

@@ -1,7 +1,6 @@
 -- What the first block of octets is.
-use Rattle.std.specs.Prelude.{⊤, ◌≤◌, ◌<◌, ℕ, ◌+◌, ◌-◌, List, length, take, drop, Bool, true, false, Option, Some, None, Result, Ok, Err, nat_lt, nat_le, ◌==◌, if◌then◌else◌}
+use Rattle.std.specs.Prelude.{⊤, ◌≤◌, ◌<◌, ℕ, ◌-◌, List, length, take, drop, Bool, true, false, Option, Some, None, Result, Ok, Err, nat_lt, nat_le, ◌==◌, if◌then◌else◌}
 use Rattle.capture.specs.declared.format.Endian.{Endian}
-use Rattle.capture.specs.declared.format.TheConstants.{MAX_RECORD_OCTETS}
 use Rattle.capture.specs.Numbers.{u16_at, u32_at}
 use Rattle.pcapng.specs.declared.fault.BlockKind.{BlockKind}
 use Rattle.pcapng.specs.declared.fault.BlockKind.TheVariants.{ShortBlock, BadLength, BadVersion, TooManyInterfaces}

@@ -1,5 +1,5 @@
 -- What a contract sees of a translation that is under way.
-use Rattle.std.specs.Prelude.{◌≡◌, ◌≤◌, ℕ, List, [], ◌++◌, drop, Bool, true, Option, Some, None}
+use Rattle.std.specs.Prelude.{◌≡◌, ℕ, List, [], ◌++◌, drop, Bool, true, None}
 use Rattle.pcapng.specs.declared.fault.Note.{Note}
 use Rattle.pcapng.specs.declared.stage.Stage.TheVariants.{Blocks}
 use Rattle.pcapng.specs.declared.to_classic.PcapngToClassic.{PcapngToClassic}

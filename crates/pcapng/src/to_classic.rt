@@ -389,6 +389,7 @@ impl Translation for PcapngToClassic {
         is_last: bool,
         out: &mut Vec<u8, A>,
     ) -> Result<usize, AllocError>
+        requires { out.old.items ≡ [] }
         ensures taken { IfOk result (λ count. count ≤ length octets.now) }
         ensures turned { IfOk result (λ count.
             IsTurned classic_of self.old self.new octets.now is_last count out.new.items) }
