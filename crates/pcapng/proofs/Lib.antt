@@ -1,3 +1,4 @@
+pub mod AnyLaws
 pub mod BlockLaws
 pub mod OptionLaws
 pub mod ReadingLaws

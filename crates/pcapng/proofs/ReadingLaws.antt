@@ -20,7 +20,7 @@ use Rattle.pcapng.specs.declared.stage.Stage.TheVariants.{Blocks, Passing, Ended
 use Rattle.pcapng.specs.declared.to_classic.PcapngToClassic.{PcapngToClassic}
 use Rattle.pcapng.specs.Classic.{Reading, past, failed, goes, fails, content_taken, block_taken, rest_taken, end_taken, step_at, step, all_of, header_put}
 use Rattle.pcapng.specs.Found.{found, IsFound, IsContent, asked_of, is_short}
-use Rattle.pcapng.specs.Reader.{reading, Takes, GoesOn, GoesFrom, IsOver, IsNoted, classic_of}
+use Rattle.pcapng.specs.Reader.{reading, Takes, GoesOn, GoesFrom, IsOver, IsNoted, classic_of, note_after}
 use Rattle.pcapng.specs.Steps.{Taken, Ran, after, run}
 use Rattle.pcapng.proofs.BlockLaws.{found-front}
 use Rattle.pcapng.proofs.StepLaws.{run_here, run_piece, after_after}
@@ -309,7 +309,7 @@ turned old new octets is_last n put a b goes later last =
     left ∙ ap (λ (r : Ran Reading). r.put) (goes later last) ∙ ap (λ (l : List ℕ). put ++ l) (sym right)
 
 pub noted : (old new : PcapngToClassic) (octets : List ℕ) (is_last : Bool) (n : ℕ) (put : List ℕ)
-    → GoesOn (reading old) (reading new) octets is_last n [] put → IsNoted old new octets is_last n
+    → GoesOn (reading old) (reading new) octets is_last n [] put → IsNoted note_after old new octets is_last n
 noted old new octets is_last n put goes later last = ap (λ (r : Ran Reading). r.last.noted) (goes later last)
 
 -- where the reading is over, nothing is put any more

@@ -1,3 +1,4 @@
+pub mod AnyFormat
 pub mod Blocks
 pub mod Classic
 pub mod Found

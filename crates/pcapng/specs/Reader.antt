@@ -1,5 +1,5 @@
 -- What a contract sees of a translation that is under way.
-use Rattle.std.specs.Prelude.{◌≡◌, ℕ, List, [], ◌++◌, drop, Bool, true, None}
+use Rattle.std.specs.Prelude.{◌≡◌, ℕ, List, [], ◌++◌, drop, Bool, true, false, None}
 use Rattle.pcapng.specs.declared.fault.Note.{Note}
 use Rattle.pcapng.specs.declared.stage.Stage.TheVariants.{Blocks}
 use Rattle.pcapng.specs.declared.to_classic.PcapngToClassic.{PcapngToClassic}
@@ -56,11 +56,16 @@ abbrev pub GoesFrom : Reading → Reading → List ℕ → Bool → ℕ → ℕ 
 GoesFrom old new octets is_last from to put_before put = (later : List ℕ) → IsAfter is_last later
     → after put_before (all_of old (drop from octets ++ later)) ≡ after put (all_of new (drop to octets ++ later))
 
--- Some of the octets in hand were taken: whatever comes later, what will be noted is what was to be noted.
-abbrev pub IsNoted : PcapngToClassic → PcapngToClassic → List ℕ → Bool → ℕ → Type 0
-IsNoted old new octets is_last count = (later : List ℕ) → IsAfter is_last later
-    → note_after old (octets ++ later) ≡ note_after new (drop count octets ++ later)
+-- before the first octet
+abbrev pub IsNew : PcapngToClassic → Type 0
+IsNew t = (reading t ≡ start) × (t.has_header ≡ false)
+
+-- Some of the octets in hand were taken: whatever comes later, what will be noted of all is what was to be noted.
+abbrev pub IsNoted : {T : Type 0} → (T → List ℕ → Note) → T → T → List ℕ → Bool → ℕ → Type 0
+IsNoted noted old new octets is_last count = (later : List ℕ) → IsAfter is_last later
+    → noted old (octets ++ later) ≡ noted new (drop count octets ++ later)
 
 -- where the octets are the last, and nothing was taken or put, all is noted
-abbrev pub IsAllNoted : PcapngToClassic → List ℕ → Bool → ℕ → List ℕ → Type 0
-IsAllNoted new octets is_last count put = is_last ≡ true → count ≡ 0 → put ≡ [] → note_after new octets ≡ note_of new
+abbrev pub IsAllNoted : {T : Type 0} → (T → List ℕ → Note) → (T → Note) → T → List ℕ → Bool → ℕ → List ℕ → Type 0
+IsAllNoted noted noted_so_far new octets is_last count put = is_last ≡ true → count ≡ 0 → put ≡ []
+    → noted new octets ≡ noted_so_far new

@@ -18,7 +18,7 @@ pub const MAX_BLOCK_OCTETS: u32 = 524_288;
 pub const MAX_INTERFACES: usize = 256;
 
 /// The type of a section header, the same in both orders.
-const SECTION_HEADER: u32 = 0x0a0d_0d0a;
+pub(crate) const SECTION_HEADER: u32 = 0x0a0d_0d0a;
 
 /// What a section header says its order by.
 const BYTE_ORDER: u32 = 0x1a2b_3c4d;

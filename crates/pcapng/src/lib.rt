@@ -4,6 +4,7 @@
 //! `capture::CaptureReader` reads. What the octets of a pcapng come to is defined in specs/Classic.antt.
 #![tactic(auto)]
 
+mod any;
 mod block;
 mod fault;
 mod interface;
@@ -12,6 +13,7 @@ mod packet;
 mod stage;
 mod to_classic;
 
+pub use any::{AnyCapture, CaptureFormat};
 pub use block::{MAX_BLOCK_OCTETS, MAX_INTERFACES};
 pub use fault::{BlockFault, BlockKind, Note};
 pub use to_classic::PcapngToClassic;

@@ -83,13 +83,12 @@ fn put_packet<A: Allocator>(
 }
 
 impl PcapngToClassic {
-    ghost use Rattle.pcapng.specs.Reader.{reading, start, note_of, Takes, GoesOn, GoesFrom, IsOver};
-    ghost use Rattle.pcapng.specs.Reader.{classic_of, IsNoted};
+    ghost use Rattle.pcapng.specs.Reader.{reading, note_of, Takes, GoesOn, GoesFrom, IsOver};
+    ghost use Rattle.pcapng.specs.Reader.{classic_of, note_after, IsNew, IsNoted};
 
     /// Before the first octet.
     pub fn new() -> PcapngToClassic
-        ensures reading { reading result ≡ start }
-        ensures header { result.has_header ≡ false }
+        ensures { IsNew result }
     {
         PcapngToClassic {
             has_header: false,
@@ -365,7 +364,7 @@ impl PcapngToClassic {
         ensures turned { IfOk result (λ count.
             IsTurned classic_of self.old self.new octets.now is_last count out.new.items) }
         ensures noted { IfOk result (λ count.
-            IsNoted self.old self.new octets.now is_last count) }
+            IsNoted note_after self.old self.new octets.now is_last count) }
         ensures done { IfOk result (λ count. is_last ≡ true → out.new.items ≢ []) }
         ensures failed { OnErr result (self.new ≡ self.old) }
     {
@@ -379,7 +378,7 @@ impl PcapngToClassic {
 }
 
 impl Translation for PcapngToClassic {
-    ghost use Rattle.pcapng.specs.Reader.{reading, classic_of, IsNoted, IsAllNoted};
+    ghost use Rattle.pcapng.specs.Reader.{reading, classic_of, note_after, note_of, IsNoted, IsAllNoted};
 
     ghost meaning = { classic_of };
 
@@ -399,9 +398,9 @@ impl Translation for PcapngToClassic {
 
         // The note, too, is in the end that of all octets.
         ensures noted { IfOk result (λ count.
-            IsNoted self.old self.new octets.now is_last count) }
-        ensures all_noted { IfOk result (λ count.
-            IsAllNoted self.new octets.now is_last count out.new.items) }
+            IsNoted note_after self.old self.new octets.now is_last count) }
+        ensures all_noted { IfOk result (λ count. IsAllNoted note_after note_of self.new octets.now
+            is_last count out.new.items) }
     {
         if !self.has_header {
             return self.put_header(octets, is_last, out);

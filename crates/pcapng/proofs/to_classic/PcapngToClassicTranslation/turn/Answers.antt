@@ -2,7 +2,7 @@ use Rattle.std.proofs.Common.{◌≡◌, ℕ, List, [], sym, ap, subst, ◌∙�
 use Rattle.translated.specs.Outlook.{IsDone, IsTurned}
 use Rattle.pcapng.specs.Classic.{Reading}
 use Rattle.pcapng.specs.Steps.{Ran}
-use Rattle.pcapng.specs.Reader.{reading, classic_of, GoesOn, IsAllNoted}
+use Rattle.pcapng.specs.Reader.{reading, classic_of, note_after, note_of, GoesOn, IsAllNoted}
 use Rattle.pcapng.proofs.ReadingLaws.{if_ok, turned, over_done, goes_all}
 use Rattle.pcapng.proofs.to_classic.PcapngToClassicTranslation.turn.Goals as goal
 
@@ -13,7 +13,7 @@ returns-then-not-self-clause-done g c =
 
 pub returns-then-not-self-clause-all_noted : goal.returns-then-not-self-clause-all_noted
 returns-then-not-self-clause-all_noted g c =
-    if_ok c.put_header.result _ (λ n. IsAllNoted c.put_header.new.self c.args.octets.now c.args.is_last n c.put_header.new.out.items)
+    if_ok c.put_header.result _ (λ n. IsAllNoted note_after note_of c.put_header.new.self c.args.octets.now c.args.is_last n c.put_header.new.out.items)
         (λ n some last none nothing. absurd (some last nothing)) c.put_header.ensures.done
 
 pub returns-then-first-eq0-clause-turned : goal.returns-then-first-eq0-clause-turned
