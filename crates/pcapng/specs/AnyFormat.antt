@@ -1,5 +1,5 @@
 -- A capture of either format.
-use Rattle.std.specs.Prelude.{ℕ, List, length, Bool, true, false, not, ◌&&◌, nat_le, nat_lt, ◌==◌, if◌then◌else◌}
+use Rattle.std.specs.Prelude.{ℕ, List, length, Bool, false, not, ◌&&◌, nat_le, nat_lt, ◌==◌, if◌then◌else◌}
 use Rattle.capture.specs.declared.format.Endian.TheVariants.{Big}
 use Rattle.capture.specs.Numbers.{u32_at}
 use Rattle.pcapng.specs.declared.fault.Note.{Note}
