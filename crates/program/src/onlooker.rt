@@ -4,16 +4,18 @@
 use crate::devices::{Named, named_in};
 use crate::early::Openness;
 use crate::job_name::JobName;
+use crate::plain_input::PassedOver;
 use crate::progress::Progress;
 use crate::stream_ids::{StreamIds, ids_of};
 use abstract_port::{Change, Command, Dropped};
 use arrayvec::ArrayVec;
 use hints::{
-    put_basis, put_busy_class, put_comment, put_devices, put_early, put_end_without, put_failure,
+    put_basis, put_block_fault, put_busy_class, put_comment, put_devices, put_early, put_end_without, put_failure,
     put_fault_hint, put_frame_dropped, put_frames_left, put_linux, put_missed, put_no_command,
-    put_no_frame, put_none_judged, put_open_port, put_shared_ids,
+    put_no_frame, put_none_judged, put_open_port, put_others, put_passed, put_rounded, put_shared_ids,
 };
 use job::{CaptureKind, Ended, Errors, FaultKind};
+use pcapng::BlockFault;
 use script::{Basis, Failure, Missed, Watch, read_tc};
 use std::alloc::Global;
 use std::io::{self, Write};
@@ -357,6 +359,37 @@ impl<'a, 'b, C: Clock, P: Write + Drop, E: Write> Onlooker<'a, 'b, C, P, E> {
                 let _ = put_fault_hint(self.errors, kind, self.line.as_slice(), capture);
             }
         }
+        let _ = self.errors.flush();
+    }
+
+    /// Reports a fault that is one of this block of a capture in pcapng, and what helps with it, where that is wanted.
+    pub fn report_block(&mut self, fault: &FaultText, block: &BlockFault)
+        ensures { self.new.found ≡ self.old.found }
+    {
+        if fault.kind == Some(FaultKind::Capture(CaptureKind::ShortRecord)) {
+            let _ = put_block_fault(self.errors, block, self.looks.explain);
+        } else {
+            let _ = put(self.errors, fault.text.as_slice());
+        }
+        let _ = self.errors.flush();
+    }
+
+    /// Tells how many packets of a capture came at a moment that is no whole number of nanoseconds, where that is wanted.
+    pub fn tell_rounded(&mut self, rounded: u64)
+        ensures { self.new.found ≡ self.old.found }
+    {
+        if rounded > 0 && self.looks.explain {
+            let _ = put_rounded(self.errors, rounded);
+            let _ = self.errors.flush();
+        }
+    }
+
+    /// Tells what was passed over in the lines of a script.
+    pub fn tell_passed(&mut self, passed: &PassedOver)
+        ensures { self.new.found ≡ self.old.found }
+    {
+        let _ = put_passed(self.errors, &passed.pasted);
+        let _ = put_others(self.errors, &passed.others);
         let _ = self.errors.flush();
     }
 }
