@@ -322,7 +322,7 @@ fn replay_as<
     watch: &mut P,
     noted: &mut Noted,
 ) -> (Ended, W)
-    ensures { IsReplayed settings timing (read_as reading.format (S.remaining inputs.capture))
+    ensures { IsReplayed settings timing (read_as reading.entry.format (S.remaining inputs.capture))
         result.0 (writer_contents W.contents report) (W.contents result.1) (E.contents errors.old)
         (E.contents errors.new) }
 {
@@ -364,7 +364,7 @@ fn replay_opened<
     watch: &mut P,
     noted: &mut Noted,
 ) -> (Ended, W)
-    ensures { IsReplayedOrForgotten settings timing reading.format (option_map T.remaining opened.capture)
+    ensures { IsReplayedOrForgotten settings timing reading.entry.format (option_map T.remaining opened.capture)
         (R.remaining reader.old) result.0 (writer_contents W.contents answers) (W.contents result.1)
         (E.contents errors.old) (E.contents errors.new) }
 {
