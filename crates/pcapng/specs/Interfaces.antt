@@ -31,7 +31,7 @@ first_option endian i octets =
     else if u16_at endian octets == 0 then told (length octets) (Ok i)
     else if nat_lt (length octets) (option_octets (u16_at endian (drop 2 octets))) then told (length octets) (Err BadOption)
     else told (option_octets (u16_at endian (drop 2 octets)))
-        (with_option endian (u16_at endian octets) (u16_at endian (drop 2 octets)) (take (u16_at endian (drop 2 octets)) (drop 4 octets)) i)
+    (with_option endian (u16_at endian octets) (u16_at endian (drop 2 octets)) (take (u16_at endian (drop 2 octets)) (drop 4 octets)) i)
 
 -- the next option, as far as all was right
 abbrev pub next_option : Endian → Result Interface BlockKind → List ℕ → Taken (Result Interface BlockKind)

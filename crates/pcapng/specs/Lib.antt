@@ -6,3 +6,4 @@ pub mod Interfaces
 pub mod Packets
 pub mod Reader
 pub mod Steps
+pub mod WithoutFcs

@@ -12,8 +12,10 @@ mod number;
 mod packet;
 mod stage;
 mod to_classic;
+mod without_fcs;
 
 pub use any::{AnyCapture, CaptureFormat};
 pub use block::{MAX_BLOCK_OCTETS, MAX_INTERFACES};
 pub use fault::{BlockFault, BlockKind, Note};
 pub use to_classic::PcapngToClassic;
+pub use without_fcs::WithoutFcs;
