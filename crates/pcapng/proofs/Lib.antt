@@ -3,4 +3,5 @@ pub mod BlockLaws
 pub mod FcsLaws
 pub mod OptionLaws
 pub mod ReadingLaws
+pub mod SpelledLaws
 pub mod StepLaws

@@ -192,7 +192,7 @@ part_goes_on old new p k octets is_last before e within some is later last =
 
 -- blocks
 
-block_step : (r : Reading) (xs : List ℕ) → r.stage ≡ Blocks → 1 ≤ length xs → step r xs ≡ block_taken r xs (found r.section r.interfaces xs)
+pub block_step : (r : Reading) (xs : List ℕ) → r.stage ≡ Blocks → 1 ≤ length xs → step r xs ≡ block_taken r xs (found r.section r.interfaces xs)
 block_step r [] e some = absurd (omega arith)
 block_step r (x ∷ xs) e some = ap (λ (s : Stage). step_at s r (x ∷ xs)) e
 
@@ -200,7 +200,7 @@ record-front : (s n : ℕ) (xs ys : List ℕ) → s + n ≤ length xs → take n
 record-front s n xs ys le =
     ap (take n) (drop-append-le s xs ys (omega arith)) ∙ take-append-le n (drop s xs) ys (omega (arith, length-drop s xs))
 
-content-front : (r : Reading) (xs ys : List ℕ) (e : Endian) (m size : ℕ) (content : Content) → IsContent m size content
+pub content-front : (r : Reading) (xs ys : List ℕ) (e : Endian) (m size : ℕ) (content : Content) → IsContent m size content
     → asked_of size content ≤ length xs → content_taken r (xs ++ ys) e size content ≡ content_taken r xs e size content
 content-front r xs ys e m size Section fits there = refl
 content-front r xs ys e m size (Described i) fits there = refl
@@ -227,7 +227,7 @@ taken_count old new f octets n m before now k fits =
     let count = content_count (reading old) octets f.endian f.length f.content fits.least fits.there in
     subst (λ (j : ℕ). (1 ≤ j) × (j ≤ length octets)) k.count count
 
-ok_err : (f : Found) → ◌≡◌ {A = Result Found BlockKind} (Ok f) (Err ShortBlock) → ⊥
+pub ok_err : (f : Found) → ◌≡◌ {A = Result Found BlockKind} (Ok f) (Err ShortBlock) → ⊥
 ok_err f is = cc
 
 err_is : (kind : BlockKind) → ◌≡◌ {A = Result Found BlockKind} (Err kind) (Err ShortBlock) → kind ≡ ShortBlock

@@ -8,6 +8,7 @@ mod any;
 mod block;
 mod fault;
 mod interface;
+pub mod laws;
 mod number;
 mod packet;
 mod stage;
