@@ -97,6 +97,11 @@ fn value_text(kind: ValueKind) -> &'static [u8] {
         ValueKind::Next => b"--next is the name of a port of the network",
         ValueKind::Shift =>
             b"--shift is picoseconds, or a number with its unit such as 37s, with - in front for an earlier moment",
+        ValueKind::Format => b"--format is pcap, pcapng or auto",
+        ValueKind::Fcs => b"--fcs is absent or present",
+        ValueKind::By => b"--by is order, id or payload",
+        ValueKind::Within =>
+            b"--within is picoseconds, or a number with its unit such as 1us",
     }
 }
 
@@ -106,7 +111,7 @@ fn capture_text(kind: CaptureKind) -> &'static [u8] {
         CaptureKind::ShortHeader =>
             b"a capture begins with a header of 24 octets: this one ends before",
         CaptureKind::BadMagic =>
-            b"this is no classic pcap file. If it is pcapng: editcap -F nsecpcap IN OUT",
+            b"this is no classic pcap file. If it is pcapng: --format auto reads it",
         CaptureKind::BadVersion => b"the version of a classic pcap file is 2.4",
         CaptureKind::BadLink =>
             b"the link type of the capture is Ethernet (1): capture at one Ethernet interface",
@@ -130,7 +135,7 @@ fn put_text<W: Write>(writer: &mut W, text: &'static [u8]) -> Result<(), WriteFa
 /// What a file is that begins like this, and is no capture that a replay reads.
 fn kind_of(octets: &[u8]) -> Option<&'static [u8]> {
     match octets {
-        [0x0a, 0x0d, 0x0d, 0x0a, ..] => Some(b"this is a pcapng file: editcap -F nsecpcap IN OUT"),
+        [0x0a, 0x0d, 0x0d, 0x0a, ..] => Some(b"this is a pcapng file: --format auto reads it"),
         [0x1f, 0x8b, ..] => Some(b"this is a gzip file: gunzip it first"),
         [0x28, 0xb5, 0x2f, 0xfd, ..] => Some(b"this is a zstd file: unzstd it first"),
         [b'f', b'r', b'a', b'm', b'e', b' ', ..]

@@ -148,6 +148,14 @@ pub enum ValueKind {
     Next,
     /// `bad value of --shift`.
     Shift,
+    /// `bad value of --format`.
+    Format,
+    /// `bad value of --fcs`.
+    Fcs,
+    /// `bad value of --by`.
+    By,
+    /// `bad value of --within`.
+    Within,
 }
 
 /// Where the end of a run is reported: its text, and what it was.

@@ -47,6 +47,7 @@ use Rattle.traffic.specs.Faults.{streams_telling}
 use Rattle.text.specs.Words.{words_of}
 use Rattle.script.proofs.ReportLaws.{if_known}
 use Rattle.wire_time.specs.Moment.{greatest_moment}
+use Rattle.program.specs.Reading.{format_in}
 use Rattle.program.specs.Given.{checks_in, is_strict, looks_at_frames, settings_in}
 use Rattle.program.specs.Strict.{IsOfFile, IsSeen, IsStrictByFiles, IsStrictByStream, IsStrictCapture, IsStrictCheck, IsStrictEnd, IsStrictEnding, IsStrictFrames, IsStrictScript, IsWatchedByFiles, IsWatchedJob, Sight, any_counts, are_plain, may_find_nothing, status_by}
 use Rattle.program.specs.declared.job_name.JobName.{JobName}
@@ -194,7 +195,8 @@ module _ {H : Type 0} (alerted : List Alert → H → H → Type 0) (know : H �
     of_files : (capture streams : Option (List ℕ)) → IsWatchedByFiles alerted given capture streams input run h k → ((know k).timed ≡ false → last ≡ (know k).found) → IsStrictByFiles given capture streams input run ended
     of_files None None w stays = of_frames (settings_in greatest_moment given) w stays
     of_files None (Some path) w stays = of_file _ _ (settings_in greatest_moment given) (λ table s w. of_by_stream s table w) w
-    of_files (Some path) streams w stays = of_file _ _ (settings_in CAPTURE_END given) (λ capture s w. of_capture s capture w stays) w
+    of_files (Some path) streams w stays =
+        if_known (format_in (first_value given (codes "format"))) (λ format w. of_file _ _ (settings_in CAPTURE_END given) (λ capture s w. of_capture s capture w stays) w) w
 
     pub strict_by : (job : JobName) → IsWatchedJob alerted job given input run h k → (may_find_nothing job (know k).frames (know k).timed ≡ false → last ≡ (know k).found) → IsStrictEnding job given input run ended
     strict_by Names.Script w stays = of_script (settings_in greatest_moment given) w stays

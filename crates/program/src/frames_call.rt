@@ -1,15 +1,18 @@
 //! The table of the frames of a script, which may have the streams of a table from a file, or run beside a capture from
 //! one.
 
-ghost use Rattle.std.specs.Prelude.{◌≡◌, IfErr, Some, codes};
+ghost use Rattle.std.specs.Prelude.{◌≡◌, IfErr, IfSome, Some, codes};
 ghost use Rattle.text.specs.Buffered.{writer_contents};
 ghost use Rattle.clap.specs.Matches.{first_value, found_of};
 ghost use Rattle.capture.specs.declared.writer.TheConstants.{CAPTURE_END};
 ghost use Rattle.program.specs.Given.{IsGivenCapture, IsGivenFrames, IsGivenTable, frames_settings, settings_in};
+ghost use Rattle.program.specs.Reading.{format_in};
 ghost use Rattle.program.specs.Strict.{IsWatchedBeside, IsWatchedByFiles, IsWatchedTable};
 ghost use Rattle.wire_time.specs.Moment.{greatest_moment};
 
-use crate::options::values_of;
+use crate::capture_input::{end_unformatted, format_given, turning};
+use crate::noted::Noted;
+use crate::options::{value_of, values_of};
 use crate::replay_call::{end_unopened, open};
 use capture::CAPTURE_END;
 use clap::ArgMatches;
@@ -20,6 +23,7 @@ use std::alloc::{Allocator, Global};
 use std::io::{Read, Write};
 use std::rt::Files;
 use text::octet_writer::BufWriter;
+use translated::Translated;
 use wire_time::MAX_MOMENT;
 
 /// Writes the table of the frames of a replay of the script that `reader` gives and of the capture in the file of this
@@ -34,12 +38,15 @@ fn frames_of_capture<F: Files, B: Allocator, R: Read, W: Write + Drop, E: Errors
     answers: BufWriter<W, B>,
     errors: &mut E,
     watch: &mut H,
+    noted: &mut Noted,
 ) -> (Ended, W)
-    ensures ending { IsGivenCapture (settings_in CAPTURE_END (found_of matches.now)) path.now
+    ensures ending { IsGivenCapture (settings_in CAPTURE_END (found_of matches.now))
+        (format_in (first_value (found_of matches.now) (codes "format"))) path.now
         (R.remaining reader.old) result.0 (writer_contents W.contents answers) (W.contents result.1)
         (E.contents errors.old) (E.contents errors.new) }
-    ensures watched { IsWatchedBeside H.alerted (settings_in CAPTURE_END (found_of matches.now))
-        (R.remaining reader.old) result.0 watch.old watch.new }
+    ensures watched { IfSome (format_in (first_value (found_of matches.now) (codes "format")))
+        (λ _. IsWatchedBeside H.alerted (settings_in CAPTURE_END (found_of matches.now))
+        (R.remaining reader.old) result.0 watch.old watch.new) }
     ensures unread { IfErr (settings_in CAPTURE_END (found_of matches.now))
         (λ _. reader.new ≡ reader.old) }
 {
@@ -47,9 +54,17 @@ fn frames_of_capture<F: Files, B: Allocator, R: Read, W: Write + Drop, E: Errors
         Ok(settings) => settings,
         Err(value) => return end_with_value(value, answers, errors),
     };
+    let Some(format) = format_given(value_of(matches, "format")) else {
+        return end_unformatted(answers, errors);
+    };
     match open(files, path) {
         Ok(capture) => {
-            answer_frames_of_capture(alloc, settings, capture, reader, answers, errors, watch)
+            let mut turned = turning(format);
+            let capture = Translated::new(alloc, alloc, capture, &mut turned);
+            let ended =
+                answer_frames_of_capture(alloc, settings, capture, reader, answers, errors, watch);
+            noted.take_capture(&turned);
+            ended
         }
         Err(path) => end_unopened(path, answers, errors),
     }
@@ -104,6 +119,7 @@ pub fn frames_given<F: Files, B: Allocator, R: Read, W: Write + Drop, E: Errors,
     answers: BufWriter<W, B>,
     errors: &mut E,
     watch: &mut H,
+    noted: &mut Noted,
 ) -> (Ended, W)
     ensures ending { IsGivenFrames (found_of matches.now)
         (first_value (found_of matches.now) (codes "capture"))
@@ -120,7 +136,7 @@ pub fn frames_given<F: Files, B: Allocator, R: Read, W: Write + Drop, E: Errors,
     match matches.get_str("capture") {
         None => frames_of_script(files, alloc, matches, reader, answers, errors, watch),
         Some(path) => frames_of_capture(
-            files, alloc, matches, path, reader, answers, errors, watch,
+            files, alloc, matches, path, reader, answers, errors, watch, noted,
         ),
     }
 }

@@ -241,6 +241,30 @@ const SHIFT: Word = Word {
     without: None,
 };
 
+const FORMAT: Word = Word {
+    given: Given::Value,
+    name: "format",
+    value: "FORMAT",
+    help: "How the capture is written: pcap, pcapng, or auto, which looks at its first octets [default: pcap]",
+    without: None,
+};
+
+const TOLERANT: Word = Word {
+    given: Given::Flag,
+    name: "tolerant",
+    value: "",
+    help: "Read tc lines as they are pasted: pass over prompts, sudo, paths of tc, quotes and semicolons, and say so",
+    without: None,
+};
+
+const OF_DEVICE: Word = Word {
+    given: Given::Value,
+    name: "device",
+    value: "NAME",
+    help: "Take the tc lines of this device alone, and pass over those of others",
+    without: None,
+};
+
 const SUMMARY: Word = Word {
     given: Given::Flag,
     name: "summary",
@@ -579,6 +603,8 @@ pub(crate) const JOBS: [Job; 9] = [
             MTU,
             ROOM,
             UNTIL,
+            TOLERANT,
+            OF_DEVICE,
             SUMMARY,
             STRICT_COMMANDS,
             STRICT_FRAMES,
@@ -595,6 +621,9 @@ pub(crate) const JOBS: [Job; 9] = [
             UNTIL_AFTER_BOTH,
             STAMP,
             SHIFT,
+            FORMAT,
+            TOLERANT,
+            OF_DEVICE,
             SUMMARY,
             PROGRESS,
             STRICT_COMMANDS,
@@ -616,6 +645,8 @@ pub(crate) const JOBS: [Job; 9] = [
             WINDOWS,
             FRAME,
             SCRIPT_LINES,
+            TOLERANT,
+            OF_DEVICE,
             STRICT_CHECK,
             EXPLAIN,
         ],
@@ -637,7 +668,7 @@ pub(crate) const JOBS: [Job; 9] = [
         name: JobName::Bounds,
         about: "Reports how long the frames of the streams in a table can ever wait, by the schedule commands on standard input",
         words: &[
-            RATE, MTU, ROOM, MAP, FRAMES, SILENT, LEFTOVERS, SLACK, WHY, STRICT, EXPLAIN, TABLE,
+            RATE, MTU, ROOM, MAP, FRAMES, SILENT, LEFTOVERS, SLACK, WHY, TOLERANT, OF_DEVICE, STRICT, EXPLAIN, TABLE,
         ],
     },
     Job {
@@ -651,6 +682,7 @@ pub(crate) const JOBS: [Job; 9] = [
             SILENT,
             LEFTOVERS,
             NEXT,
+            TOLERANT,
             STRICT_PATHS,
             EXPLAIN,
             NETWORK,
@@ -684,6 +716,8 @@ pub(crate) const JOBS: [Job; 9] = [
             FROM,
             TO,
             WIDTH,
+            TOLERANT,
+            OF_DEVICE,
             STRICT_COMMANDS,
             EXPLAIN,
         ],
@@ -697,7 +731,10 @@ pub(crate) const JOBS: [Job; 9] = [
             ROOM,
             UNTIL,
             CAPTURE_OF_FRAMES,
+            FORMAT,
             BY_STREAM,
+            TOLERANT,
+            OF_DEVICE,
             STRICT_COMMANDS,
             EXPLAIN,
         ],

@@ -73,10 +73,7 @@ impl<A: Allocator> Hand<A> {
 }
 
 /// Reads once, and adds what comes. When out of memory, nothing is read.
-fn read_behind<A: Allocator, R: Read>(
-    octets: &mut Vec<u8, A>,
-    source: &mut R,
-) -> io::Result<usize>
+fn read_behind<A: Allocator, R: Read>(octets: &mut Vec<u8, A>, source: &mut R) -> io::Result<usize>
     ensures octets { Keeps (prepend_known octets.old.items (R.remaining source.old))
         (prepend_known octets.new.items (R.remaining source.new)) }
     ensures ended { IfOk result (λ count. count ≡ 0 → IsAtEnd (R.remaining source.new)) }

@@ -42,3 +42,25 @@ impl<T: Translation> Translation for &mut T {
         (**self).turn(octets, is_last, out)
     }
 }
+
+/// A translation that is asked for, or none: then all comes out as it is.
+impl<T: Translation> Translation for Option<T> {
+    ghost use Rattle.translated.specs.Outlook.{meaning_where};
+
+    ghost meaning = { meaning_where T.meaning };
+
+    fn turn<A: Allocator>(
+        &mut self,
+        octets: &[u8],
+        is_last: bool,
+        out: &mut Vec<u8, A>,
+    ) -> Result<usize, AllocError> {
+        match self {
+            Some(translation) => translation.turn(octets, is_last, out),
+            None => {
+                out.extend_from_slice(octets)?;
+                Ok(octets.len())
+            }
+        }
+    }
+}

@@ -1,0 +1,6 @@
+pub mod Lines
+pub mod Reading
+pub mod State
+pub mod Plain
+pub mod Notes
+pub mod Device

@@ -1,0 +1,43 @@
+-- The lines that a job reads: as they stand, as they are plainly meant where they were pasted, or those of one device.
+use Rattle.std.specs.Prelude.{ℕ, List, [], Bool, true, false, ◌&&◌, ◌||◌, Option, Some, None, codes, option_map, if◌then◌else◌}
+use Rattle.std.specs.Option.{option_map_or}
+use Rattle.clap.specs.Matches.{first_value}
+use Rattle.clap.specs.declared.parser.matches.Found.{Found}
+use Rattle.pasted.specs.Device.{device_rule}
+use Rattle.pasted.specs.Lines.{each_line}
+use Rattle.pasted.specs.Plain.{plain_rule}
+use Rattle.pasted.specs.declared.place.Place.TheVariants.{First}
+use Rattle.program.specs.Given.{flag_in}
+use Rattle.program.specs.declared.job_name.JobName.{JobName}
+use Rattle.program.specs.declared.job_name.JobName.TheVariants as Names
+
+-- lines as they are pasted, where that is asked
+abbrev pub plain_in : Bool → List ℕ → List ℕ
+plain_in tolerant octets = if tolerant then each_line plain_rule First [] octets else octets
+
+-- the lines of one device, where one is named
+abbrev pub of_device : Option (List ℕ) → List ℕ → List ℕ
+of_device None octets = octets
+of_device (Some name) octets = each_line (device_rule name) First [] octets
+
+-- both, as the words ask
+abbrev pub lines_in : Found → List ℕ → List ℕ
+lines_in found octets = of_device (first_value found (codes "device")) (plain_in (flag_in (codes "tolerant") found) octets)
+
+-- whether the words ask for one of them
+abbrev pub asks_lines : Found → Bool
+asks_lines found = flag_in (codes "tolerant") found || option_map_or (λ name. true) (first_value found (codes "device")) false
+
+-- whether the standard input of a job has lines with schedule commands
+abbrev pub reads_commands : JobName → Bool
+reads_commands Names.Script = true
+reads_commands Names.Check = true
+reads_commands Names.Bounds = true
+reads_commands Names.Paths = true
+reads_commands Names.Draw = true
+reads_commands Names.Frames = true
+reads_commands job = false
+
+-- what a job reads of its standard input
+abbrev pub input_of : JobName → Found → Option (List ℕ) → Option (List ℕ)
+input_of job found input = if reads_commands job && asks_lines found then option_map (lines_in found) input else input

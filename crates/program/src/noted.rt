@@ -1,0 +1,35 @@
+//! What was met in the inputs of a job beside what it answers.
+
+use crate::plain_input::PassedOver;
+use pcapng::{AnyCapture, BlockFault};
+
+/// What was met in the inputs of a job.
+#[derive(Drop)]
+pub struct Noted {
+    /// The block of a capture in pcapng that can't be read, if there is one.
+    pub(crate) block: Option<BlockFault>,
+    /// How many packets came at a moment that is no whole number of nanoseconds.
+    pub(crate) rounded: u64,
+    /// What was passed over in the lines of a script.
+    pub(crate) passed: PassedOver,
+}
+
+impl Noted {
+    /// Nothing was met.
+    pub fn nothing() -> Noted {
+        Noted {
+            block: None,
+            rounded: 0,
+            passed: PassedOver::none(),
+        }
+    }
+
+    /// What was met in a capture that was turned into a classic one, if it was.
+    pub(crate) fn take_capture(&mut self, turned: &Option<AnyCapture>) {
+        if let Some(turned) = turned {
+            let note = turned.note();
+            self.block = note.fault;
+            self.rounded = note.rounded;
+        }
+    }
+}
