@@ -306,3 +306,8 @@ pub over_done : (new : PcapngToClassic) (octets : List ℕ) → new.has_header �
     → classic_of new octets ≡ []
 over_done new octets a is =
     ap (λ (h : Bool). header_put h ++ (all_of (reading new) octets).put) a ∙ ap (λ (r : Ran Reading). r.put) is
+
+-- after a fault nothing is put any more, whatever comes
+pub ended_classic : (t : PcapngToClassic) → t.stage ≡ Ended → t.has_header ≡ true → (octets : List ℕ) → classic_of t octets ≡ []
+ended_classic t e a octets =
+    ap (λ (h : Bool). header_put h ++ (all_of (reading t) octets).put) a ∙ ap (λ (r : Ran Reading). r.put) (ended_all (reading t) e octets)

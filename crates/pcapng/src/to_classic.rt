@@ -412,4 +412,11 @@ impl Translation for PcapngToClassic {
         }
         Ok(self.advance_more(first, octets, is_last, out))
     }
+
+    fn is_over(&self) -> bool {
+        match self.stage {
+            Stage::Ended => self.has_header,
+            _ => false,
+        }
+    }
 }
