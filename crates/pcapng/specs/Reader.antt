@@ -20,7 +20,14 @@ reading t = record {
 
 -- before the first octet
 abbrev pub start : Reading
-start = record { stage = Blocks; section = None; interfaces = []; number = 0; place = 0; noted = record { fault = None; rounded = 0 } }
+start = record {
+  stage = Blocks;
+  section = None;
+  interfaces = [];
+  number = 0;
+  place = 0;
+  noted = record { fault = None; rounded = 0 };
+}
 
 -- what is noted so far
 abbrev pub note_of : PcapngToClassic → Note

@@ -1,5 +1,5 @@
--- A capture in pcapng as it is spelled: a section header, an interface of Ethernet in nanoseconds, and enhanced packet blocks
--- (draft-ietf-opsawg-pcapng, 3.1, 4.1 to 4.3).
+-- A capture in pcapng as it is spelled: a section header, an interface of Ethernet in nanoseconds, and enhanced packet
+-- blocks (draft-ietf-opsawg-pcapng, 3.1, 4.1 to 4.3).
 use Rattle.std.specs.Prelude.{◌≡◌, ℕ, ◌+◌, ◌-◌, ◌/◌, ◌%◌, ◌^◌, List, [], ◌∷◌, ◌++◌, length, replicate}
 use Rattle.capture.specs.declared.format.Endian.{Endian}
 use Rattle.capture.specs.Numbers.{u16_octets, u32_octets}
@@ -11,11 +11,13 @@ use Rattle.pcapng.specs.Reader.{IsNew, classic_of}
 
 -- a block: its type, its length, what it has in it, and its length once more
 abbrev pub spelled_block : Endian → ℕ → List ℕ → List ℕ
-spelled_block e kind body = u32_octets e kind ++ (u32_octets e (length body + 12) ++ (body ++ u32_octets e (length body + 12)))
+spelled_block e kind body =
+    u32_octets e kind ++ (u32_octets e (length body + 12) ++ (body ++ u32_octets e (length body + 12)))
 
 -- a section header of version 1.0, whose length isn't said
 abbrev pub spelled_section : Endian → List ℕ
-spelled_section e = spelled_block e 0x0a0d0d0a (u32_octets e 0x1a2b3c4d ++ (u16_octets e 1 ++ (u16_octets e 0 ++ replicate 8 255)))
+spelled_section e = spelled_block e 0x0a0d0d0a
+    (u32_octets e 0x1a2b3c4d ++ (u16_octets e 1 ++ (u16_octets e 0 ++ replicate 8 255)))
 
 -- an interface of link type 1, without a snap length, whose time stamps are nanoseconds
 abbrev pub spelled_interface : Endian → List ℕ
@@ -41,7 +43,8 @@ spelled_packets e (p ∷ ps) = spelled_packet e p ++ spelled_packets e ps
 abbrev pub spelled_pcapng : Endian → List Entry → List ℕ
 spelled_pcapng e ps = spelled_section e ++ (spelled_interface e ++ spelled_packets e ps)
 
--- what is spelled, in either order, comes to the header of a classic capture and the same records, as a writer spells them
+-- what is spelled, in either order, comes to the header of a classic capture and the same records, as a writer spells
+-- them
 abbrev pub IsReadBack : PcapngToClassic → Type 0
 IsReadBack t = IsNew t → (e : Endian) (ps : List Entry) → AreWithin ps
     → classic_of t (spelled_pcapng e ps) ≡ written_header ++ spelled_records written_format ps

@@ -1,5 +1,5 @@
--- A classic capture whose frames have their frame check sequence (IEEE Std 802.3, 3.2.9: 4 octets at the end), and the same
--- without (pcap-savefile(5)).
+-- A classic capture whose frames have their frame check sequence (IEEE Std 802.3, 3.2.9: 4 octets at the end), and the
+-- same without (pcap-savefile(5)).
 use Rattle.std.specs.Prelude.{◌≡◌, ◌≤◌, ⊤, ℕ, ◌+◌, ◌-◌, List, ◌++◌, length, take, drop, min, Bool, Option, Some, None, nat_lt, ◌==◌, ◌||◌, if◌then◌else◌}
 use Rattle.capture.specs.declared.format.Endian.{Endian}
 use Rattle.capture.specs.declared.format.Endian.TheVariants.{Big, Little}
@@ -18,7 +18,10 @@ is_magic number = number == 0xa1b2c3d4 || number == 0xa1b23c4d
 
 -- the order of the numbers of a capture
 abbrev pub order_of : List ℕ → Option Endian
-order_of octets = if is_magic (u32_at Big octets) then Some Big else if is_magic (u32_at Little octets) then Some Little else None
+order_of octets =
+    if is_magic (u32_at Big octets) then Some Big
+    else if is_magic (u32_at Little octets) then Some Little
+    else None
 
 -- the file header
 abbrev pub header_with : Option Endian → Piece
@@ -55,7 +58,8 @@ cut_with endian whole captured original =
 
 -- a whole record without its frame check sequence: the same time stamp, the new lengths, and as many octets
 abbrev pub cut_record : Endian → List ℕ → List ℕ
-cut_record endian whole = cut_with endian whole (cut_captured (u32_at endian (drop 8 whole)) (u32_at endian (drop 12 whole)))
+cut_record endian whole = cut_with endian whole
+    (cut_captured (u32_at endian (drop 8 whole)) (u32_at endian (drop 12 whole)))
     (cut_original (u32_at endian (drop 12 whole)))
 
 -- so many octets are taken

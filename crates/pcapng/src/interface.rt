@@ -39,8 +39,8 @@ fn take_value(
     value: &[u8],
     interface: &mut Interface,
 ) -> Result<(), BlockKind>
-    ensures told { IfOk result (λ _. with_option endian code (length value.now) value.now interface.old
-        ≡ Ok interface.new) }
+    ensures told { IfOk result (λ _.
+        with_option endian code (length value.now) value.now interface.old ≡ Ok interface.new) }
     ensures fault { IfErr result (λ kind.
         with_option endian code (length value.now) value.now interface.old ≡ Err kind) }
 {

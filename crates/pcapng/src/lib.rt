@@ -1,7 +1,7 @@
 //! Captures in pcapng (draft-ietf-opsawg-pcapng) as the classic ones that they come to.
 //!
-//! `PcapngToClassic` is a `Translation`: a `translated::Translated` with it gives the octets of a classic capture, which
-//! `capture::CaptureReader` reads. What the octets of a pcapng come to is defined in specs/Classic.antt.
+//! `PcapngToClassic` is a `Translation`: a `translated::Translated` with it gives the octets of a classic capture,
+//! which `capture::CaptureReader` reads. What the octets of a pcapng come to is defined in specs/Classic.antt.
 #![tactic(auto)]
 
 mod any;

@@ -325,8 +325,8 @@ impl PcapngToClassic {
         }
     }
 
-    /// Takes what comes behind the first octets, until enough is put or more is wanted. How many octets it took, the first
-    /// ones included. Where it runs out of memory it stops.
+    /// Takes what comes behind the first octets, until enough is put or more is wanted. How many octets it took, the
+    /// first ones included. Where it runs out of memory it stops.
     fn advance_more<A: Allocator>(
         &mut self,
         first: usize,

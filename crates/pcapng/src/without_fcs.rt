@@ -50,9 +50,9 @@ pub(crate) enum Piece {
     Whole(Endian, u32),
 }
 
-/// Takes the frame check sequence, the last 4 octets, from each frame of a classic capture: its original length is less by
-/// 4, and of the octets captured there are no more than are then left of the frame. A frame of less than 4 octets stays as
-/// it is. What is no capture is passed on unchanged from there on, so that who reads finds the same fault.
+/// Takes the frame check sequence, the last 4 octets, from each frame of a classic capture: its original length is less
+/// by 4, and of the octets captured there are no more than are then left of the frame. A frame of less than 4 octets stays
+/// as it is. What is no capture is passed on unchanged from there on, so that who reads finds the same fault.
 #[derive(Debug, Drop)]
 pub struct WithoutFcs {
     stage: CutStage,
