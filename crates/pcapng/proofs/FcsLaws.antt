@@ -30,7 +30,7 @@ header_at-front xs ys decided = elim (cases_lt (length xs) 24) [
       rw (whole, more) (ap header_with (order_of-front xs ys (omega arith)))
 ]
 
-record_at-front : (e : Endian) (xs ys : List ℕ) → record_at e xs ≢ Part → record_at e (xs ++ ys) ≡ record_at e xs
+pub record_at-front : (e : Endian) (xs ys : List ℕ) → record_at e xs ≢ Part → record_at e (xs ++ ys) ≡ record_at e xs
 record_at-front e xs ys decided = elim (cases_lt (length xs) 16) [
   | inl short ↦ absurd (decided (rw (lt-ltb _ _ short) refl))
   | inr long ↦

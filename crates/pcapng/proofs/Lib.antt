@@ -1,5 +1,6 @@
 pub mod AnyLaws
 pub mod BlockLaws
+pub mod CutLaws
 pub mod FcsLaws
 pub mod OptionLaws
 pub mod ReadingLaws

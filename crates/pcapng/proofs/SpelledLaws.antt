@@ -37,7 +37,7 @@ use Rattle.pcapng.proofs.ReadingLaws.{block_step, ok_err, end_all, content-front
 use Rattle.pcapng.proofs.StepLaws.{run_piece}
 
 -- a number that is spelled is read back
-u32_at-octets : (e : Endian) (x : ℕ) (rest : List ℕ) → x < 4294967296 → u32_at e (u32_octets e x ++ rest) ≡ x
+pub u32_at-octets : (e : Endian) (x : ℕ) (rest : List ℕ) → x < 4294967296 → u32_at e (u32_octets e x ++ rest) ≡ x
 u32_at-octets Big x rest fits = big_from-bytes 4 x rest ∙ mod-eq_of_lt fits
 u32_at-octets Little x rest fits = little_from-bytes 4 0 x rest ∙ ap (λ (k : ℕ). k % 4294967296) (div-one x) ∙ mod-eq_of_lt fits
 

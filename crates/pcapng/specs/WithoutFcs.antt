@@ -1,9 +1,12 @@
 -- A classic capture whose frames have their frame check sequence (IEEE Std 802.3, 3.2.9: 4 octets at the end), and the
 -- same without (pcap-savefile(5)).
-use Rattle.std.specs.Prelude.{◌≡◌, ◌≤◌, ⊤, ℕ, ◌+◌, ◌-◌, List, ◌++◌, length, take, drop, min, Bool, Option, Some, None, nat_lt, ◌==◌, ◌||◌, if◌then◌else◌}
+use Rattle.std.specs.Prelude.{◌≡◌, ◌≤◌, ⊤, ℕ, ◌+◌, ◌-◌, List, ◌++◌, length, take, drop, map, min, Bool, Option, Some, None, nat_lt, ◌==◌, ◌||◌, if◌then◌else◌}
 use Rattle.capture.specs.declared.format.Endian.{Endian}
 use Rattle.capture.specs.declared.format.Endian.TheVariants.{Big, Little}
 use Rattle.capture.specs.declared.format.TheConstants.{MAX_RECORD_OCTETS}
+use Rattle.capture.specs.declared.format.Format.{Format}
+use Rattle.capture.specs.Layout.{spelled_header, spelled_records, AreWithin}
+use Rattle.capture.specs.Records.{Entry}
 use Rattle.capture.specs.Numbers.{u32_at, u32_octets}
 use Rattle.pcapng.specs.declared.without_fcs.CutStage.{CutStage}
 use Rattle.pcapng.specs.declared.without_fcs.CutStage.TheVariants.{Start, Records, Unchanged}
@@ -97,3 +100,17 @@ IsPiece n (Whole endian size) = (16 ≤ size) × (size ≤ n)
 -- a record has the octets that it says
 abbrev pub IsWhole : Endian → List ℕ → Type 0
 IsWhole endian whole = length whole ≡ 16 + u32_at endian (drop 8 whole)
+
+-- a record without the last 4 octets of its frame
+abbrev pub cut_entry : Entry → Entry
+cut_entry p = record p {
+  captured = cut_captured p.captured p.original;
+  original = cut_original p.original;
+  octets = take (cut_captured p.captured p.original) p.octets;
+}
+
+-- a capture that is spelled, in either order and resolution, is turned into the same one with each record so
+abbrev pub IsCutSpelling : WithoutFcs → Type 0
+IsCutSpelling w = stage_of w ≡ Start → (format : Format) (zone accuracy snapshot : ℕ) (es : List Entry) → AreWithin es
+    → without_of w (spelled_header format zone accuracy snapshot ++ spelled_records format es)
+    ≡ spelled_header format zone accuracy snapshot ++ spelled_records format (map cut_entry es)
