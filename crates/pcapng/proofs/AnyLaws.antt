@@ -9,7 +9,7 @@ use Rattle.pcapng.specs.declared.any.CaptureFormat.{CaptureFormat}
 use Rattle.pcapng.specs.declared.any.CaptureFormat.TheVariants.{Pcap, Pcapng, Auto}
 use Rattle.pcapng.specs.declared.to_classic.PcapngToClassic.{PcapngToClassic}
 use Rattle.pcapng.specs.AnyFormat.{is_pcapng, settled, wants_more, turned_as, noted_as, any_of, any_note_after}
-use Rattle.pcapng.specs.Reader.{classic_of, note_after, note_of, IsNoted}
+use Rattle.pcapng.specs.Reader.{note_of, IsNoted}
 
 is_pcapng-front : (xs ys : List ℕ) → 4 ≤ length xs → is_pcapng (xs ++ ys) ≡ is_pcapng xs
 is_pcapng-front xs ys le =

@@ -37,12 +37,12 @@ found_by-front : (kind : Option Kind) (h : Head) (is : List Interface) (xs ys : 
     → found_by kind h is (xs ++ ys) ≡ found_by kind h is xs
 found_by-front None h is xs ys decided = refl
 found_by-front (Some kind) h is xs ys decided = elim (cases_lt (length xs) h.length) [
-    inl short ↦ absurd (decided (rw (lt-ltb _ _ short) refl))
+  | inl short ↦ absurd (decided (rw (lt-ltb _ _ short) refl))
   | inr long ↦
       let whole : ltb (length xs) h.length ≡ false = le-ltb _ _ long in
       let more : ltb (length (xs ++ ys)) h.length ≡ false = le-ltb _ _ (omega (arith, length-append xs ys)) in
       rw (whole, more) (ap (whole_block kind h is) (take-append-le h.length xs ys long))
-  ]
+]
 
 found_with-front : (o : Result Head BlockKind) (is : List Interface) (xs ys : List ℕ) → found_with o is xs ≢ Err ShortBlock
     → found_with o is (xs ++ ys) ≡ found_with o is xs
@@ -53,11 +53,11 @@ found_with-front (Err kind) is xs ys decided = refl
 pub found-front : (section : Option Endian) (is : List Interface) (xs ys : List ℕ) → found section is xs ≢ Err ShortBlock
     → found section is (xs ++ ys) ≡ found section is xs
 found-front section is xs ys decided = elim (cases_lt (length xs) 12) [
-    inl short ↦ absurd (decided (rw (lt-ltb _ _ short) refl))
+  | inl short ↦ absurd (decided (rw (lt-ltb _ _ short) refl))
   | inr long ↦
       let whole : ltb (length xs) 12 ≡ false = le-ltb _ _ long in
       let more : ltb (length (xs ++ ys)) 12 ≡ false = le-ltb _ _ (omega (arith, length-append xs ys)) in
       let read : found_with (head_of section xs) is xs ≢ Err ShortBlock = λ e. decided (rw whole e) in
       rw (whole, more) (ap (λ (o : Result Head BlockKind). found_with o is (xs ++ ys)) (head_of-front section xs ys long)
-          ∙ found_with-front (head_of section xs) is xs ys read)
-  ]
+      ∙ found_with-front (head_of section xs) is xs ys read)
+]

@@ -20,8 +20,8 @@ use Rattle.pcapng.specs.declared.stage.Stage.TheVariants.{Blocks, Passing, Ended
 use Rattle.pcapng.specs.declared.to_classic.PcapngToClassic.{PcapngToClassic}
 use Rattle.pcapng.specs.Classic.{Reading, past, failed, goes, fails, content_taken, block_taken, rest_taken, end_taken, step_at, step, all_of, header_put}
 use Rattle.pcapng.specs.Found.{found, IsFound, IsContent, asked_of, is_short}
-use Rattle.pcapng.specs.Reader.{reading, Takes, GoesOn, GoesFrom, IsOver, IsNoted, classic_of, note_after}
-use Rattle.pcapng.specs.Steps.{Taken, Ran, after, run}
+use Rattle.pcapng.specs.Steps.{Taken, Ran, after, run, GoesOn, GoesFrom, IsOver}
+use Rattle.pcapng.specs.Reader.{reading, Takes, IsNoted, classic_of, note_after}
 use Rattle.pcapng.proofs.BlockLaws.{found-front}
 use Rattle.pcapng.proofs.StepLaws.{run_here, run_piece, after_after}
 
@@ -59,7 +59,7 @@ fails_all r kind (x ∷ xs) is =
 pub failed_goes_on : (old new : PcapngToClassic) (kind : BlockKind) (octets : List ℕ) (is_last : Bool) (n : ℕ) (before now : List ℕ)
     → ((later : List ℕ) → IsAfter is_last later → step (reading old) (octets ++ later) ≡ fails (reading old) kind (octets ++ later))
     → Takes (fails (reading old) kind octets) n before now old new
-    → GoesOn (reading old) (reading new) octets is_last n before now
+    → GoesOn step (reading old) (reading new) octets is_last n before now
 failed_goes_on old new kind octets is_last n before now steps k later last =
     let f = failed (reading old) kind in
     let rest : List ℕ = drop n octets ++ later in
@@ -74,7 +74,7 @@ longer before now is same = omega (arith, ap length is, ap length same, length-a
 
 -- a fault is put, so the reading isn't over
 pub failed_over : (old new : PcapngToClassic) (kind : BlockKind) (octets : List ℕ) (is_last : Bool) (n : ℕ) (before now : List ℕ)
-    → Takes (fails (reading old) kind octets) n before now old new → IsOver (reading new) octets is_last n before now
+    → Takes (fails (reading old) kind octets) n before now old new → IsOver step (reading new) octets is_last n before now
 failed_over old new kind octets is_last n before now k last none same = absurd (longer before now k.put same)
 
 -- the rest of a block
@@ -109,7 +109,7 @@ rest_short_last r p octets later e few none =
 -- the whole rest is taken
 pub rest_goes_on : (old new : Reading) (p : Passage) (octets : List ℕ) (is_last : Bool) (before : List ℕ) → old.stage ≡ Passing p
     → p.left + 4 ≤ length octets → u32_at p.endian (drop p.left octets) ≡ p.length → new ≡ past old p.length
-    → GoesOn old new octets is_last (p.left + 4) before before
+    → GoesOn step old new octets is_last (p.left + 4) before before
 rest_goes_on old new p octets is_last before e some same is later last =
     let inner = u32_at-inner p.endian p.left octets later some in
     let first = rest_good old p (octets ++ later) e (omega (arith, length-append octets later)) (inner ∙ same) in
@@ -149,9 +149,9 @@ rest_all few same r p xs e a b =
 
 ltb_moved : (a b k : ℕ) → k ≤ a → k ≤ b → ltb (a - k) (b - k + 4) ≡ ltb a (b + 4)
 ltb_moved a b k ka kb = elim (cases_lt a (b + 4)) [
-    inl few ↦ lt-ltb (a - k) (b - k + 4) (omega arith) ∙ sym (lt-ltb a (b + 4) few)
+  | inl few ↦ lt-ltb (a - k) (b - k + 4) (omega arith) ∙ sym (lt-ltb a (b + 4) few)
   | inr many ↦ le-ltb (a - k) (b - k + 4) (omega arith) ∙ sym (le-ltb a (b + 4) many)
-  ]
+]
 
 ran_moved : (few same : Bool) (r s : Reading) (p q : Passage) (xs ys : List ℕ) → failed r ShortBlock ≡ failed s ShortBlock
     → failed r BadLength ≡ failed s BadLength → past r p.length ≡ past s q.length → drop (p.left + 4) xs ≡ drop (q.left + 4) ys
@@ -184,15 +184,15 @@ part_all r p k xs e within some =
 
 -- a part of the rest is taken
 pub part_goes_on : (old new : Reading) (p : Passage) (k : ℕ) (octets : List ℕ) (is_last : Bool) (before : List ℕ) → old.stage ≡ Passing p
-    → k ≤ p.left → k ≤ length octets → new ≡ moved old p k → GoesOn old new octets is_last k before before
+    → k ≤ p.left → k ≤ length octets → new ≡ moved old p k → GoesOn step old new octets is_last k before before
 part_goes_on old new p k octets is_last before e within some is later last =
     ap (after before) (part_all old p k (octets ++ later) e within (omega (arith, length-append octets later))
-        ∙ ap (all_of (moved old p k)) (drop-append-le k octets later some))
+    ∙ ap (all_of (moved old p k)) (drop-append-le k octets later some))
     ∙ ap (λ (r : Reading). after before (all_of r (drop k octets ++ later))) (sym is)
 
 -- blocks
 
-block_step : (r : Reading) (xs : List ℕ) → r.stage ≡ Blocks → 1 ≤ length xs → step r xs ≡ block_taken r xs (found r.section r.interfaces xs)
+pub block_step : (r : Reading) (xs : List ℕ) → r.stage ≡ Blocks → 1 ≤ length xs → step r xs ≡ block_taken r xs (found r.section r.interfaces xs)
 block_step r [] e some = absurd (omega arith)
 block_step r (x ∷ xs) e some = ap (λ (s : Stage). step_at s r (x ∷ xs)) e
 
@@ -200,7 +200,7 @@ record-front : (s n : ℕ) (xs ys : List ℕ) → s + n ≤ length xs → take n
 record-front s n xs ys le =
     ap (take n) (drop-append-le s xs ys (omega arith)) ∙ take-append-le n (drop s xs) ys (omega (arith, length-drop s xs))
 
-content-front : (r : Reading) (xs ys : List ℕ) (e : Endian) (m size : ℕ) (content : Content) → IsContent m size content
+pub content-front : (r : Reading) (xs ys : List ℕ) (e : Endian) (m size : ℕ) (content : Content) → IsContent m size content
     → asked_of size content ≤ length xs → content_taken r (xs ++ ys) e size content ≡ content_taken r xs e size content
 content-front r xs ys e m size Section fits there = refl
 content-front r xs ys e m size (Described i) fits there = refl
@@ -208,7 +208,7 @@ content-front r xs ys e m size Passed fits there = refl
 content-front r xs ys e m size (Framed p) fits there =
     let t = content_taken r xs e size (Framed p) in
     ap (λ (l : List ℕ). goes size (spelled_record_header written_format (p.moment * 1000) p.captured p.original ++ l) t.state)
-        (record-front p.start p.captured xs ys (omega (arith, fits.0)))
+    (record-front p.start p.captured xs ys (omega (arith, fits.0)))
 
 content_count : (r : Reading) (xs : List ℕ) (e : Endian) (size : ℕ) (content : Content) → 12 ≤ size → asked_of size content ≤ length xs
     → (1 ≤ (content_taken r xs e size content).count) × ((content_taken r xs e size content).count ≤ length xs)
@@ -227,7 +227,7 @@ taken_count old new f octets n m before now k fits =
     let count = content_count (reading old) octets f.endian f.length f.content fits.least fits.there in
     subst (λ (j : ℕ). (1 ≤ j) × (j ≤ length octets)) k.count count
 
-ok_err : (f : Found) → ◌≡◌ {A = Result Found BlockKind} (Ok f) (Err ShortBlock) → ⊥
+pub ok_err : (f : Found) → ◌≡◌ {A = Result Found BlockKind} (Ok f) (Err ShortBlock) → ⊥
 ok_err f is = cc
 
 err_is : (kind : BlockKind) → ◌≡◌ {A = Result Found BlockKind} (Err kind) (Err ShortBlock) → kind ≡ ShortBlock
@@ -236,7 +236,7 @@ err_is kind is = cc
 -- a block that is found of the octets in hand is the first of all
 pub taken_goes_on : (old new : PcapngToClassic) (f : Found) (octets : List ℕ) (is_last : Bool) (n m : ℕ) (before now : List ℕ)
     → old.stage ≡ Blocks → found old.section old.interfaces.items octets ≡ Ok f → IsFound m (length octets) f
-    → Takes (taken_of old octets f) n before now old new → GoesOn (reading old) (reading new) octets is_last n before now
+    → Takes (taken_of old octets f) n before now old new → GoesOn step (reading old) (reading new) octets is_last n before now
 taken_goes_on old new f octets is_last n m before now e is fits k later last =
     let r = reading old in
     let t = taken_of old octets f in
@@ -274,33 +274,22 @@ pub none_fails : (r : Reading) (later : List ℕ) (is_last : Bool) → r.stage �
     → step r later ≡ fails r ShortBlock later
 none_fails r later is_last e none it last =
     subst (λ (l : List ℕ). step r l ≡ fails r ShortBlock l) (sym (last it))
-        (ap (λ (s : Stage). step_at s r []) e ∙ ap (end_taken r) none)
+    (ap (λ (s : Stage). step_at s r []) e ∙ ap (end_taken r) none)
 
 -- the end between blocks
 pub end_all : (r : Reading) (endian : Endian) → r.stage ≡ Blocks → r.section ≡ Some endian → all_of r [] ≡ over [] r
 end_all r endian e some =
     ap (λ (t : Taken Reading). over t.put t.state) (ap (λ (s : Stage). step_at s r []) e ∙ ap (end_taken r) some)
 
--- one more piece from a place on
-pub goes_more : (old mid new : Reading) (octets : List ℕ) (is_last : Bool) (first at n : ℕ) (before now more : List ℕ)
-    → GoesFrom old mid octets is_last first at before now → GoesOn mid new (drop at octets) is_last n now more
-    → GoesFrom old new octets is_last first (at + n) before more
-goes_more old mid new octets is_last first at n before now more a b later last =
-    a later last ∙ b later last ∙ ap (λ (l : List ℕ). after more (all_of new (l ++ later))) (drop-drop n at octets)
-
--- nothing was taken yet
-pub goes_none : (r : Reading) (octets : List ℕ) (is_last : Bool) (at : ℕ) (before : List ℕ) → GoesFrom r r octets is_last at at before before
-goes_none r octets is_last at before later last = refl
-
 -- a first piece and then more
 pub goes_all : (old mid new : Reading) (octets : List ℕ) (is_last : Bool) (first at : ℕ) (before now more : List ℕ)
-    → GoesOn old mid octets is_last first before now → GoesFrom mid new octets is_last first at now more
-    → GoesOn old new octets is_last at before more
+    → GoesOn step old mid octets is_last first before now → GoesFrom step mid new octets is_last first at now more
+    → GoesOn step old new octets is_last at before more
 goes_all old mid new octets is_last first at before now more a b later last = a later last ∙ b later last
 
 -- what was put is the first of what the octets are turned into
 pub turned : (old new : PcapngToClassic) (octets : List ℕ) (is_last : Bool) (n : ℕ) (put : List ℕ) → old.has_header ≡ true → new.has_header ≡ true
-    → GoesOn (reading old) (reading new) octets is_last n [] put → IsTurned classic_of old new octets is_last n put
+    → GoesOn step (reading old) (reading new) octets is_last n [] put → IsTurned classic_of old new octets is_last n put
 turned old new octets is_last n put a b goes later last =
     let left : classic_of old (octets ++ later) ≡ (all_of (reading old) (octets ++ later)).put =
     ap (λ (h : Bool). header_put h ++ (all_of (reading old) (octets ++ later)).put) a in
@@ -309,7 +298,7 @@ turned old new octets is_last n put a b goes later last =
     left ∙ ap (λ (r : Ran Reading). r.put) (goes later last) ∙ ap (λ (l : List ℕ). put ++ l) (sym right)
 
 pub noted : (old new : PcapngToClassic) (octets : List ℕ) (is_last : Bool) (n : ℕ) (put : List ℕ)
-    → GoesOn (reading old) (reading new) octets is_last n [] put → IsNoted note_after old new octets is_last n
+    → GoesOn step (reading old) (reading new) octets is_last n [] put → IsNoted note_after old new octets is_last n
 noted old new octets is_last n put goes later last = ap (λ (r : Ran Reading). r.last.noted) (goes later last)
 
 -- where the reading is over, nothing is put any more
@@ -317,3 +306,8 @@ pub over_done : (new : PcapngToClassic) (octets : List ℕ) → new.has_header �
     → classic_of new octets ≡ []
 over_done new octets a is =
     ap (λ (h : Bool). header_put h ++ (all_of (reading new) octets).put) a ∙ ap (λ (r : Ran Reading). r.put) is
+
+-- after a fault nothing is put any more, whatever comes
+pub ended_classic : (t : PcapngToClassic) → t.stage ≡ Ended → t.has_header ≡ true → (octets : List ℕ) → classic_of t octets ≡ []
+ended_classic t e a octets =
+    ap (λ (h : Bool). header_put h ++ (all_of (reading t) octets).put) a ∙ ap (λ (r : Ran Reading). r.put) (ended_all (reading t) e octets)

@@ -60,11 +60,13 @@ abbrev pub with_rounded : Bool → Reading → Reading
 with_rounded true r = record r { noted = record r.noted { rounded = counted (r.noted.rounded + 1) } }
 with_rounded false r = r
 
--- a block with this content is taken: a section has no interfaces at first, an interface is one more, a packet is put, and of a
--- block that is passed over 8 octets are taken at once
+-- a block with this content is taken: a section has no interfaces at first, an interface is one more, a packet is put, and
+-- of a block that is passed over 8 octets are taken at once
 abbrev pub content_taken : Reading → List ℕ → Endian → ℕ → Content → Taken Reading
-content_taken r octets endian size Section = goes size [] (past (record r { section = Some endian; interfaces = [] }) size)
-content_taken r octets endian size (Described i) = goes size [] (past (record r { interfaces = r.interfaces ++ i ∷ [] }) size)
+content_taken r octets endian size Section =
+    goes size [] (past (record r { section = Some endian; interfaces = [] }) size)
+content_taken r octets endian size (Described i) =
+    goes size [] (past (record r { interfaces = r.interfaces ++ i ∷ [] }) size)
 content_taken r octets endian size (Framed p) = goes size (record_of p octets) (past (with_rounded p.is_rounded r) size)
 content_taken r octets endian size Passed =
     goes 8 [] (record r { stage = Passing (record { endian = endian; left = size - 12; length = size }) })

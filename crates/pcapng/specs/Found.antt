@@ -52,7 +52,8 @@ found_as h (Err kind) = Err kind
 -- a whole block says its length twice (3.1)
 abbrev pub whole_block : Kind → Head → List Interface → List ℕ → Result Found BlockKind
 whole_block kind h interfaces block =
-    if u32_at h.endian (drop (length block - 4) block) == h.length then found_as h (content_of kind h.endian interfaces block)
+    if u32_at h.endian (drop (length block - 4) block) == h.length
+    then found_as h (content_of kind h.endian interfaces block)
     else Err BadLength
 
 -- what a block with this front is; of one that isn't read the front is enough

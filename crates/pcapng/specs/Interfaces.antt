@@ -12,8 +12,8 @@ use Rattle.pcapng.specs.Steps.{Taken, run_all}
 abbrev pub option_octets : ℕ → ℕ
 option_octets length = 4 + (length + 3) / 4 * 4
 
--- what an option says of an interface: its resolution (code 9, if_tsresol), or how many seconds are added to its moments
--- (code 14, if_tsoffset), or nothing that is asked for
+-- what an option says of an interface: its resolution (code 9, if_tsresol), or how many seconds are added to its
+-- moments (code 14, if_tsoffset), or nothing that is asked for
 abbrev pub with_option : Endian → ℕ → ℕ → List ℕ → Interface → Result Interface BlockKind
 with_option endian code size value i =
     if code == 9 then (if size == 1 then Ok (record i { resolution = slice_index value 0 }) else Err BadOption)
@@ -24,14 +24,18 @@ with_option endian code size value i =
 abbrev pub told : ℕ → Result Interface BlockKind → Taken (Result Interface BlockKind)
 told count found = record { count = count; put = []; state = found }
 
--- the first option; an option of code 0 (opt_endofopt) ends the list, and so what comes after it counts for nothing
+-- an option of this code and length; one of code 0 (opt_endofopt) ends the list, and what comes after it counts for nothing
+abbrev pub option_taken : Endian → Interface → List ℕ → ℕ → ℕ → Taken (Result Interface BlockKind)
+option_taken endian i octets code size =
+    if code == 0 then told (length octets) (Ok i)
+    else if nat_lt (length octets) (option_octets size) then told (length octets) (Err BadOption)
+    else told (option_octets size) (with_option endian code size (take size (drop 4 octets)) i)
+
+-- the first option
 abbrev pub first_option : Endian → Interface → List ℕ → Taken (Result Interface BlockKind)
 first_option endian i octets =
     if nat_lt (length octets) 4 then told (length octets) (Err BadOption)
-    else if u16_at endian octets == 0 then told (length octets) (Ok i)
-    else if nat_lt (length octets) (option_octets (u16_at endian (drop 2 octets))) then told (length octets) (Err BadOption)
-    else told (option_octets (u16_at endian (drop 2 octets)))
-        (with_option endian (u16_at endian octets) (u16_at endian (drop 2 octets)) (take (u16_at endian (drop 2 octets)) (drop 4 octets)) i)
+    else option_taken endian i octets (u16_at endian octets) (u16_at endian (drop 2 octets))
 
 -- the next option, as far as all was right
 abbrev pub next_option : Endian → Result Interface BlockKind → List ℕ → Taken (Result Interface BlockKind)
@@ -49,5 +53,6 @@ plain_interface link snap = record { link = link; snap = snap; resolution = 6; o
 
 -- the interface that a whole block describes: its link type, 2 octets of nothing, its snap length, its options
 abbrev pub interface_of : Endian → List ℕ → Result Interface BlockKind
-interface_of endian block = with_options endian (plain_interface (u16_at endian (drop 8 block)) (u32_at endian (drop 12 block)))
+interface_of endian block =
+    with_options endian (plain_interface (u16_at endian (drop 8 block)) (u32_at endian (drop 12 block)))
     (slice_range block 16 (length block - 4))

@@ -5,4 +5,6 @@ pub mod Found
 pub mod Interfaces
 pub mod Packets
 pub mod Reader
+pub mod Spelled
 pub mod Steps
+pub mod WithoutFcs

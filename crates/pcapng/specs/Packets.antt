@@ -42,7 +42,8 @@ abbrev pub is_rounded : Interface → Option ℕ → Bool
 is_rounded i (Some ticks) = is_part_left i.resolution ticks
 is_rounded i None = false
 
--- the octets captured: of a simple packet block, which doesn't say, all of the frame up to the snap length, where there is one
+-- the octets captured: of a simple packet block, which doesn't say, all of the frame up to the snap length, where there
+-- is one
 abbrev pub captured_of : Option ℕ → ℕ → ℕ → ℕ
 captured_of (Some captured) snap original = captured
 captured_of None snap original = if snap == 0 then original else min original snap
@@ -67,7 +68,8 @@ packet_with i captured f =
 
 -- a packet of an interface, or the first fault that it has
 abbrev pub packet_of : Option Interface → Fields → Result Packet BlockKind
-packet_of (Some i) f = if i.link == 1 then packet_with i (captured_of f.captured i.snap f.original) f else Err (BadLink i.link)
+packet_of (Some i) f =
+    if i.link == 1 then packet_with i (captured_of f.captured i.snap f.original) f else Err (BadLink i.link)
 packet_of None f = Err NoInterface
 
 -- what an enhanced packet block says (4.3), and one of old
@@ -90,7 +92,8 @@ simple_fields endian block = record {
   room = length block - 16;
 }
 
--- the packet of a whole block: an enhanced one names its interface by 32 bits, one of old by 16, and a simple one is of the first
+-- the packet of a whole block: an enhanced one names its interface by 32 bits, one of old by 16, and a simple one is of
+-- the first
 abbrev pub enhanced_packet : Endian → List Interface → List ℕ → Result Packet BlockKind
 enhanced_packet endian interfaces block =
     packet_of (slice_get interfaces (u32_at endian (drop 8 block))) (stamped_fields endian block)

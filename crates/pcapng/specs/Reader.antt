@@ -4,7 +4,7 @@ use Rattle.pcapng.specs.declared.fault.Note.{Note}
 use Rattle.pcapng.specs.declared.stage.Stage.TheVariants.{Blocks}
 use Rattle.pcapng.specs.declared.to_classic.PcapngToClassic.{PcapngToClassic}
 use Rattle.pcapng.specs.Classic.{Reading, all_of, header_put}
-use Rattle.pcapng.specs.Steps.{Taken, after}
+use Rattle.pcapng.specs.Steps.{Taken}
 use Rattle.translated.specs.Outlook.{IsAfter}
 
 -- how far it has read
@@ -20,7 +20,14 @@ reading t = record {
 
 -- before the first octet
 abbrev pub start : Reading
-start = record { stage = Blocks; section = None; interfaces = []; number = 0; place = 0; noted = record { fault = None; rounded = 0 } }
+start = record {
+  stage = Blocks;
+  section = None;
+  interfaces = [];
+  number = 0;
+  place = 0;
+  noted = record { fault = None; rounded = 0 };
+}
 
 -- what is noted so far
 abbrev pub note_of : PcapngToClassic → Note
@@ -34,27 +41,12 @@ classic_of t octets = header_put t.has_header ++ (all_of (reading t) octets).put
 abbrev pub note_after : PcapngToClassic → List ℕ → Note
 note_after t octets = (all_of (reading t) octets).last.noted
 
--- Some of the octets in hand were taken: whatever comes later, what was put by then and what follows are what they were to be.
-abbrev pub GoesOn : Reading → Reading → List ℕ → Bool → ℕ → List ℕ → List ℕ → Type 0
-GoesOn old new octets is_last count put_before put = (later : List ℕ) → IsAfter is_last later
-    → after put_before (all_of old (octets ++ later)) ≡ after put (all_of new (drop count octets ++ later))
-
 -- what was taken and put, and how far it has read then
 pub record Takes (t : Taken Reading) (n : ℕ) (put_before put_now : List ℕ) (old new : PcapngToClassic) : Type 0 where
   pub count : t.count ≡ n
   pub put : put_now ≡ put_before ++ t.put
   pub state : reading new ≡ t.state
   pub header : new.has_header ≡ old.has_header
-
--- where the octets are the last, and nothing was taken or put, the reading is over
-abbrev pub IsOver : Reading → List ℕ → Bool → ℕ → List ℕ → List ℕ → Type 0
-IsOver r octets is_last count put_before put = is_last ≡ true → count ≡ 0 → put ≡ put_before
-    → all_of r octets ≡ record { put = []; last = r }
-
--- the same from a place in the octets to a later one
-abbrev pub GoesFrom : Reading → Reading → List ℕ → Bool → ℕ → ℕ → List ℕ → List ℕ → Type 0
-GoesFrom old new octets is_last from to put_before put = (later : List ℕ) → IsAfter is_last later
-    → after put_before (all_of old (drop from octets ++ later)) ≡ after put (all_of new (drop to octets ++ later))
 
 -- before the first octet
 abbrev pub IsNew : PcapngToClassic → Type 0

@@ -117,4 +117,11 @@ impl Translation for AnyCapture {
         self.format = format;
         Ok(octets.len())
     }
+
+    fn is_over(&self) -> bool {
+        match self.format {
+            CaptureFormat::Pcapng => self.pcapng.is_over(),
+            _ => false,
+        }
+    }
 }

@@ -169,7 +169,11 @@ fn section_of(endian: Endian, block: &[u8]) -> Result<Content, BlockKind>
 }
 
 /// One more interface, where there is room for it.
-fn description_of(endian: Endian, interfaces: &[Interface], block: &[u8]) -> Result<Content, BlockKind>
+fn description_of(
+    endian: Endian,
+    interfaces: &[Interface],
+    block: &[u8],
+) -> Result<Content, BlockKind>
     requires { 20 ≤ length block.now }
     ensures content { result ≡ description_of endian interfaces.now block.now }
     ensures room { IsOk result → length interfaces.now < MAX_INTERFACES }

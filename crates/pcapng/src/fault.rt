@@ -1,19 +1,22 @@
 //! Why a capture in pcapng can't be read any further.
 
-/// What is wrong with a block. Of a block they are found in the order in which they stand here, but that `BadLength` is
-/// also found of a block that is there whole, where its two lengths differ, and `LongRecord` of a packet.
+/// What is wrong with a block. One fault is found, in this order: `ShortBlock` where there are fewer than 12 octets; by
+/// the first 12 `NotPcapng` or `BadByteOrder`, `BadLength`, `LongRecord`; `ShortBlock`; and of a block that is there
+/// whole `BadLength` where its two lengths differ, and then the others as they stand here, with `LongRecord` of a packet
+/// before `BadCaptured`.
 #[derive(Clone, Copy, Debug, PartialEq, Eq)]
 pub enum BlockKind {
-    /// The input ends within the block, or before the first one.
-    ShortBlock,
     /// The first block is no section header.
     NotPcapng,
     /// The byte-order magic of a section header is 1A2B3C4D in neither order.
     BadByteOrder,
-    /// The length of the block is below 12, no multiple of 4, or too short for its kind, or differs from the one at its end.
+    /// The length of the block is below 12, no multiple of 4, or too short for its kind, or differs from the one at its
+    /// end.
     BadLength,
-    /// A packet has more than `MAX_RECORD_OCTETS` octets, or a block that is read whole more than `MAX_BLOCK_OCTETS`.
+    /// A packet has more than `MAX_RECORD_OCTETS` octets, or a block that is read more than `MAX_BLOCK_OCTETS`.
     LongRecord,
+    /// The input ends within the block, or before the first one.
+    ShortBlock,
     /// The major version of a section is not 1.
     BadVersion,
     /// A section describes more than `MAX_INTERFACES` interfaces.

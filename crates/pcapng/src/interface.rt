@@ -33,9 +33,14 @@ pub(crate) struct Interface {
 }
 
 /// Takes what an option says of the interface, where it is asked for.
-fn take_value(endian: Endian, code: u16, value: &[u8], interface: &mut Interface) -> Result<(), BlockKind>
-    ensures told { IfOk result (λ _. with_option endian code (length value.now) value.now interface.old
-        ≡ Ok interface.new) }
+fn take_value(
+    endian: Endian,
+    code: u16,
+    value: &[u8],
+    interface: &mut Interface,
+) -> Result<(), BlockKind>
+    ensures told { IfOk result (λ _.
+        with_option endian code (length value.now) value.now interface.old ≡ Ok interface.new) }
     ensures fault { IfErr result (λ kind.
         with_option endian code (length value.now) value.now interface.old ≡ Err kind) }
 {

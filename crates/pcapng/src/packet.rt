@@ -99,7 +99,11 @@ fn early(moment: u128) -> Option<u64>
     ensures moment { result ≡ early moment }
     ensures early { IfSome result (λ m. m < 4294967296000000000) }
 {
-    if moment < END { Some(moment as u64) } else { None }
+    if moment < END {
+        Some(moment as u64)
+    } else {
+        None
+    }
 }
 
 /// A moment, and the seconds of an offset.
@@ -200,7 +204,11 @@ fn stamped_fields(endian: Endian, block: &[u8]) -> Fields
 }
 
 /// The packet of an enhanced packet block.
-pub(crate) fn enhanced_packet(endian: Endian, interfaces: &[Interface], block: &[u8]) -> Result<Packet, BlockKind>
+pub(crate) fn enhanced_packet(
+    endian: Endian,
+    interfaces: &[Interface],
+    block: &[u8],
+) -> Result<Packet, BlockKind>
     requires least { 32 ≤ length block.now }
     requires most { length block.now < 2 ^ 32 }
     ensures packet { result ≡ enhanced_packet endian interfaces.now block.now }
@@ -211,7 +219,11 @@ pub(crate) fn enhanced_packet(endian: Endian, interfaces: &[Interface], block: &
 }
 
 /// The packet of a packet block of old.
-pub(crate) fn obsolete_packet(endian: Endian, interfaces: &[Interface], block: &[u8]) -> Result<Packet, BlockKind>
+pub(crate) fn obsolete_packet(
+    endian: Endian,
+    interfaces: &[Interface],
+    block: &[u8],
+) -> Result<Packet, BlockKind>
     requires least { 32 ≤ length block.now }
     requires most { length block.now < 2 ^ 32 }
     ensures packet { result ≡ obsolete_packet endian interfaces.now block.now }
@@ -222,7 +234,11 @@ pub(crate) fn obsolete_packet(endian: Endian, interfaces: &[Interface], block: &
 }
 
 /// The packet of a simple packet block.
-pub(crate) fn simple_packet(endian: Endian, interfaces: &[Interface], block: &[u8]) -> Result<Packet, BlockKind>
+pub(crate) fn simple_packet(
+    endian: Endian,
+    interfaces: &[Interface],
+    block: &[u8],
+) -> Result<Packet, BlockKind>
     requires least { 16 ≤ length block.now }
     requires most { length block.now < 2 ^ 32 }
     ensures packet { result ≡ simple_packet endian interfaces.now block.now }

@@ -4,7 +4,8 @@ ghost use Rattle.std.specs.Prelude.{◌≡◌, ◌≢◌, ◌≤◌, ◌<◌, �
 ghost use Rattle.capture.specs.CaptureWriter.{written_format, written_header};
 ghost use Rattle.capture.specs.Layout.{spelled_record_header};
 ghost use Rattle.translated.specs.Outlook.{IsTurned, IsDone, IsAfter};
-ghost use Rattle.pcapng.specs.Classic.{past, fails, content_taken, record_of, with_rounded};
+ghost use Rattle.pcapng.specs.Steps.{GoesOn, GoesFrom, IsOver};
+ghost use Rattle.pcapng.specs.Classic.{step, past, fails, content_taken, record_of, with_rounded};
 ghost use Rattle.pcapng.specs.Packets.{IsFramed};
 ghost use Rattle.pcapng.specs.Found.{IsFound};
 
@@ -83,7 +84,7 @@ fn put_packet<A: Allocator>(
 }
 
 impl PcapngToClassic {
-    ghost use Rattle.pcapng.specs.Reader.{reading, note_of, Takes, GoesOn, GoesFrom, IsOver};
+    ghost use Rattle.pcapng.specs.Reader.{reading, note_of, Takes};
     ghost use Rattle.pcapng.specs.Reader.{classic_of, note_after, IsNew, IsNoted};
 
     /// Before the first octet.
@@ -200,11 +201,11 @@ impl PcapngToClassic {
         requires blocks { self.old.stage ≡ Stage.Blocks }
         requires some { 1 ≤ length octets.now }
         ensures count { IfOk result (λ count. count ≤ length octets.now) }
-        ensures goes_on { IfOk result (λ count. GoesOn (reading self.old) (reading self.new)
+        ensures goes_on { IfOk result (λ count. GoesOn step (reading self.old) (reading self.new)
             octets.now is_last count out.old.items out.new.items) }
         ensures header { self.new.has_header ≡ self.old.has_header }
-        ensures done { IfOk result (λ count. IsOver (reading self.new) octets.now is_last count
-            out.old.items out.new.items) }
+        ensures done { IfOk result (λ count. IsOver step (reading self.new) octets.now is_last
+            count out.old.items out.new.items) }
         ensures failed { OnErr result (self.new ≡ self.old) }
         ensures nothing { OnErr result (out.new.items ≡ out.old.items) }
     {
@@ -227,10 +228,10 @@ impl PcapngToClassic {
     ) -> Result<usize, AllocError>
         requires { self.old.stage ≡ Stage.Blocks }
         ensures count { IfOk result (λ count. count ≡ 0) }
-        ensures goes_on { IfOk result (λ count. GoesOn (reading self.old) (reading self.new)
+        ensures goes_on { IfOk result (λ count. GoesOn step (reading self.old) (reading self.new)
             [] is_last count out.old.items out.new.items) }
         ensures header { self.new.has_header ≡ self.old.has_header }
-        ensures done { IfOk result (λ count. IsOver (reading self.new) [] is_last count
+        ensures done { IfOk result (λ count. IsOver step (reading self.new) [] is_last count
             out.old.items out.new.items) }
         ensures failed { OnErr result (self.new ≡ self.old) }
         ensures nothing { OnErr result (out.new.items ≡ out.old.items) }
@@ -250,11 +251,11 @@ impl PcapngToClassic {
     ) -> Result<usize, AllocError>
         requires { self.old.stage ≡ Stage.Blocks }
         ensures count { IfOk result (λ count. count ≤ length octets.now) }
-        ensures goes_on { IfOk result (λ count. GoesOn (reading self.old) (reading self.new)
+        ensures goes_on { IfOk result (λ count. GoesOn step (reading self.old) (reading self.new)
             octets.now is_last count out.old.items out.new.items) }
         ensures header { self.new.has_header ≡ self.old.has_header }
-        ensures done { IfOk result (λ count. IsOver (reading self.new) octets.now is_last count
-            out.old.items out.new.items) }
+        ensures done { IfOk result (λ count. IsOver step (reading self.new) octets.now is_last
+            count out.old.items out.new.items) }
         ensures failed { OnErr result (self.new ≡ self.old) }
         ensures nothing { OnErr result (out.new.items ≡ out.old.items) }
     {
@@ -274,11 +275,11 @@ impl PcapngToClassic {
     ) -> Result<usize, AllocError>
         requires { self.old.stage ≡ Stage.Passing passage }
         ensures count { IfOk result (λ count. count ≤ length octets.now) }
-        ensures goes_on { IfOk result (λ count. GoesOn (reading self.old) (reading self.new)
+        ensures goes_on { IfOk result (λ count. GoesOn step (reading self.old) (reading self.new)
             octets.now is_last count out.old.items out.new.items) }
         ensures header { self.new.has_header ≡ self.old.has_header }
-        ensures done { IfOk result (λ count. IsOver (reading self.new) octets.now is_last count
-            out.old.items out.new.items) }
+        ensures done { IfOk result (λ count. IsOver step (reading self.new) octets.now is_last
+            count out.old.items out.new.items) }
         ensures failed { OnErr result (self.new ≡ self.old) }
         ensures nothing { OnErr result (out.new.items ≡ out.old.items) }
     {
@@ -309,11 +310,11 @@ impl PcapngToClassic {
         out: &mut Vec<u8, A>,
     ) -> Result<usize, AllocError>
         ensures count { IfOk result (λ count. count ≤ length octets.now) }
-        ensures goes_on { IfOk result (λ count. GoesOn (reading self.old) (reading self.new)
+        ensures goes_on { IfOk result (λ count. GoesOn step (reading self.old) (reading self.new)
             octets.now is_last count out.old.items out.new.items) }
         ensures header { self.new.has_header ≡ self.old.has_header }
-        ensures done { IfOk result (λ count. IsOver (reading self.new) octets.now is_last count
-            out.old.items out.new.items) }
+        ensures done { IfOk result (λ count. IsOver step (reading self.new) octets.now is_last
+            count out.old.items out.new.items) }
         ensures failed { OnErr result (self.new ≡ self.old) }
         ensures nothing { OnErr result (out.new.items ≡ out.old.items) }
     {
@@ -324,8 +325,8 @@ impl PcapngToClassic {
         }
     }
 
-    /// Takes what comes behind the first octets, until enough is put or more is wanted. How many octets it took, the first
-    /// ones included. Where it runs out of memory it stops.
+    /// Takes what comes behind the first octets, until enough is put or more is wanted. How many octets it took, the
+    /// first ones included. Where it runs out of memory it stops.
     fn advance_more<A: Allocator>(
         &mut self,
         first: usize,
@@ -336,7 +337,7 @@ impl PcapngToClassic {
         requires { first ≤ length octets.now }
         ensures count { result ≤ length octets.now }
         ensures some { first ≤ result }
-        ensures goes_on { GoesFrom (reading self.old) (reading self.new) octets.now is_last first
+        ensures goes_on { GoesFrom step (reading self.old) (reading self.new) octets.now is_last first
             result out.old.items out.new.items }
         ensures header { self.new.has_header ≡ self.old.has_header }
     {
@@ -410,5 +411,12 @@ impl Translation for PcapngToClassic {
             return Ok(0);
         }
         Ok(self.advance_more(first, octets, is_last, out))
+    }
+
+    fn is_over(&self) -> bool {
+        match self.stage {
+            Stage::Ended => self.has_header,
+            _ => false,
+        }
     }
 }

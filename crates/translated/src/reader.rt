@@ -103,7 +103,7 @@ impl<R: Read, T: Translation, A: Allocator> Translated<R, T, A> {
     {
         for _ in 0..u64::MAX {
             let count = self.turn(false)?;
-            if self.waiting() > 0 {
+            if self.waiting() > 0 || self.translation.is_over() {
                 return Ok(());
             }
             if count == 0 && self.hand.fill(&mut self.source)? == 0 {

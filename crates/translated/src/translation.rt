@@ -1,6 +1,6 @@
 //! How octets are turned into others.
 
-ghost use Rattle.std.specs.Prelude.{◌≡◌, ◌≤◌, [], ℕ, List, IfOk, OnErr, length};
+ghost use Rattle.std.specs.Prelude.{◌≡◌, ◌≤◌, [], ℕ, List, IfOk, IsTrue, OnErr, length};
 ghost use Rattle.translated.specs.Outlook.{IsTurned, IsDone};
 
 use std::alloc::{AllocError, Allocator};
@@ -28,6 +28,13 @@ pub trait Translation {
         ensures done { IfOk result (λ count.
             IsDone meaning self.new octets.now is_last count out.new.items) }
         ensures failed { OnErr result (self.new ≡ self.old) };
+
+    /// Whether nothing is put any more, whatever comes. Who knows it early says so, and then no more is read.
+    fn is_over(&self) -> bool
+        ensures { IsTrue result → (octets : List ℕ) → meaning self.now octets ≡ [] }
+    {
+        false
+    }
 }
 
 impl<T: Translation> Translation for &mut T {
@@ -40,6 +47,10 @@ impl<T: Translation> Translation for &mut T {
         out: &mut Vec<u8, A>,
     ) -> Result<usize, AllocError> {
         (**self).turn(octets, is_last, out)
+    }
+
+    fn is_over(&self) -> bool {
+        (**self).is_over()
     }
 }
 
@@ -61,6 +72,13 @@ impl<T: Translation> Translation for Option<T> {
                 out.extend_from_slice(octets)?;
                 Ok(octets.len())
             }
+        }
+    }
+
+    fn is_over(&self) -> bool {
+        match self {
+            Some(translation) => translation.is_over(),
+            None => false,
         }
     }
 }
