@@ -1,3 +1,4 @@
 mod RunLaws
 mod QuoteLaws
 mod DeviceLaws
+mod PlainLaws

@@ -5,7 +5,6 @@ use Rattle.std.specs.Str.{bytes_eq}
 use Rattle.text.specs.Numbers.{behind_first}
 use Rattle.text.specs.Words.{words_of}
 use Rattle.pasted.specs.Lines.{Rule}
-use Rattle.pasted.specs.declared.place.Place.{Place}
 
 -- whether another word belongs to a word: that of a parent, or of a handle
 abbrev pub takes_word : List ℕ → Bool

@@ -4,3 +4,4 @@ pub mod State
 pub mod Plain
 pub mod Notes
 pub mod Device
+pub mod Laws

@@ -7,6 +7,7 @@
 mod device;
 mod ends;
 mod fronts;
+pub mod laws;
 mod line_rule;
 mod lines;
 mod note;
@@ -27,5 +28,5 @@ pub use note::{Marks, Note, Passed};
 pub use of_device::OfDevice;
 pub use others::{MAX_NAME, Others};
 pub use place::Place;
-pub use tolerant::Tolerant;
 pub use tail::{LongRun, Tail};
+pub use tolerant::Tolerant;
