@@ -2,3 +2,4 @@ mod RunLaws
 mod QuoteLaws
 mod DeviceLaws
 mod PlainLaws
+mod FeedCounts
