@@ -5,3 +5,4 @@ pub mod Plain
 pub mod Notes
 pub mod Device
 pub mod Laws
+pub mod OthersNoted
