@@ -1,16 +1,16 @@
 -- What comes out has as many line feeds as what goes in.
-use Rattle.std.proofs.Common.{◌≡◌, ◌+◌, ◌-◌, ◌++◌, ℕ, zero, suc, Bool, true, false, List, [], ◌∷◌, length, take, drop, get_or, refl, sym, ap, ◌∙◌, append_assoc, arith, if◌then◌else◌}
-use Rattle.std.specs.Prelude.{not, ◌&&◌, ◌||◌, ◌==◌, codes}
-use Rattle.std.specs.List.{count_by, filter, position_or_len, prefix_len}
+use Rattle.std.proofs.Common.{◌≡◌, ◌+◌, ◌-◌, ◌++◌, ℕ, Bool, true, false, List, [], ◌∷◌, length, take, drop, get_or, refl, sym, ap, ◌∙◌, arith, if◌then◌else◌}
+use Rattle.std.specs.Prelude.{not, ◌&&◌, ◌==◌, codes}
+use Rattle.std.specs.List.{filter, position_or_len, prefix_len}
 use Rattle.std.proofs.Math.Path.{ap₂}
 use Rattle.std.proofs.lemmas.Bool.{ne_eqb}
 use Rattle.std.proofs.lemmas.List.{take-append-drop}
 use Rattle.std.proofs.lemmas.List.Sums.{sum_by-append}
 use Rattle.text.specs.Script.{joins}
 use Rattle.text.specs.Words.{is_blank}
-use Rattle.pasted.specs.Device.{device_line, device_rule, is_of_other, line_feeds}
+use Rattle.pasted.specs.Device.{device_rule, is_of_other, line_feeds}
 use Rattle.pasted.specs.Laws.{feeds}
-use Rattle.pasted.specs.Lines.{each_line, ends_line, is_long, next_place, turned_line}
+use Rattle.pasted.specs.Lines.{each_line, is_long, next_place, turned_line}
 use Rattle.pasted.specs.Plain.{begins_command, behind_word, body, command, ending, first_word, has_long_prompt, has_mark, has_more_prompt, has_sudo, indent, is_joined, is_option, is_prompt, is_quoted, next_word, past_blanks, past_more_prompt, past_option, past_prompt, past_sudo, plain_command, plain_line, plain_more, plain_rule, unblank_length, unended_length, unmarked, unquoted, unquoted_words}
 use Rattle.pasted.specs.declared.place.Place.{Place}
 use Rattle.pasted.specs.declared.place.Place.TheVariants.{First, Begin, Command, Other}

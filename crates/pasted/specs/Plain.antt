@@ -1,5 +1,5 @@
--- Lines of tc as they are pasted from a shell, a manual or a script, and the plain lines of tc that they mean. A line here is a physical
--- one, without its line feed. Its words are the runs of octets that are no blanks: no spaces, tabs and CRs.
+-- Lines of tc as they are pasted, and the plain ones that they mean. A line here is a physical one, without its line feed. Its words are
+-- the runs of octets that are no spaces, tabs and CRs.
 use Rattle.std.specs.Prelude.{◌-◌, ◌==◌, ◌&&◌, ◌||◌, not, nat_eq, nat_lt, Bool, true, false, List, ℕ, [], ◌∷◌, ◌++◌, codes, drop, length, slice_index, take, if◌then◌else◌}
 use Rattle.std.specs.List.{ends_with, filter, list_all, list_any, position_or_len, prefix_len, starts_with, suffix_len}
 use Rattle.std.specs.Str.{bytes_eq}

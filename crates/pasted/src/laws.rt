@@ -10,11 +10,9 @@ pub fn plain_law()
 /// What comes out of `Tolerant` has as many line feeds as what goes in.
 pub fn plain_feeds_law()
     ensures { PlainFeedsLaw }
-{
-}
+{}
 
 /// What comes out of `OfDevice` has as many line feeds as what goes in.
 pub fn device_feeds_law()
     ensures { DeviceFeedsLaw }
-{
-}
+{}

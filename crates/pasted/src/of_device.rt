@@ -54,7 +54,8 @@ impl LineRule for OfDevice<'_> {
         out: &mut Vec<u8, A>,
     ) -> Result<Place, AllocError>
         ensures text { IfOk result (λ _. out.new.items ≡ out.old.items
-            ++ ((device_rule self.old.name.now).turned line.now.place line.now.text.now ++ line.now.end.now)) }
+            ++ ((device_rule self.old.name.now).turned line.now.place line.now.text.now
+            ++ line.now.end.now)) }
         ensures next { IfOk result (λ place.
             place ≡ (device_rule self.old.name.now).next line.now.place line.now.text.now) }
         ensures rule { device_rule self.new.name.now ≡ device_rule self.old.name.now }
