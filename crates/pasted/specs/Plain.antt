@@ -5,7 +5,7 @@ use Rattle.std.specs.List.{ends_with, filter, list_all, list_any, position_or_le
 use Rattle.std.specs.Str.{bytes_eq}
 use Rattle.text.specs.Script.{joins}
 use Rattle.text.specs.Words.{is_blank}
-use Rattle.pasted.specs.Lines.{Rule, place_behind}
+use Rattle.pasted.specs.Lines.{Rule, each_line, place_behind}
 use Rattle.pasted.specs.declared.place.Place.{Place}
 use Rattle.pasted.specs.declared.place.Place.TheVariants.{First, Begin, Command, Other}
 
@@ -202,3 +202,7 @@ place_after place line = text_after place (unmarked place line)
 -- each physical line by itself
 abbrev pub plain_rule : Rule
 plain_rule = record { is_whole = false; turned = plain_line; next = place_after }
+
+-- the plain lines that the lines of an input mean
+abbrev pub plain_lines : List ℕ → List ℕ
+plain_lines octets = each_line plain_rule First [] octets
