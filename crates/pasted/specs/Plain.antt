@@ -3,6 +3,7 @@
 use Rattle.std.specs.Prelude.{◌-◌, ◌==◌, ◌&&◌, ◌||◌, not, nat_eq, nat_lt, Bool, true, false, List, ℕ, [], ◌∷◌, ◌++◌, codes, drop, length, slice_index, take, if◌then◌else◌}
 use Rattle.std.specs.List.{ends_with, filter, list_all, list_any, position_or_len, prefix_len, starts_with, suffix_len}
 use Rattle.std.specs.Str.{bytes_eq}
+use Rattle.text.specs.Numbers.{is_digits}
 use Rattle.text.specs.Script.{joins}
 use Rattle.text.specs.Words.{is_blank}
 use Rattle.pasted.specs.Lines.{Rule, each_line, place_behind}
@@ -42,9 +43,9 @@ ends_with_sign word =
 abbrev pub tells_host : List ℕ → Bool
 tells_host word = not (slice_index word 0 == 35) && (list_any (λ b. b == 64) word || list_any (λ b. b == 58) word)
 
--- a prompt of one word: the sign alone, or behind a user, a host or a folder
+-- a prompt of one word: the sign alone, or behind a user, a host or a folder; or the number of a line of a shell's history
 abbrev pub is_prompt : List ℕ → Bool
-is_prompt word = ends_with_sign word && ((length word == 1) || tells_host word)
+is_prompt word = is_digits word || (ends_with_sign word && ((length word == 1) || tells_host word))
 
 -- a prompt of two words: those in brackets, or the sign apart
 unfoldable pub is_long_prompt : List ℕ → List ℕ → Bool
