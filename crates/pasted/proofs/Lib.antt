@@ -1,3 +1,5 @@
 mod RunLaws
 mod QuoteLaws
 mod DeviceLaws
+mod PlainLaws
+mod FeedCounts

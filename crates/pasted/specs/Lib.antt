@@ -4,3 +4,5 @@ pub mod State
 pub mod Plain
 pub mod Notes
 pub mod Device
+pub mod Laws
+pub mod OthersNoted

@@ -1,5 +1,5 @@
 -- Octets that are turned into others a line at a time.
-use Rattle.std.specs.Prelude.{◌<◌, ◌==◌, ◌&&◌, not, nat_lt, Bool, true, false, List, ℕ, [], ◌∷◌, ◌++◌, length, if◌then◌else◌}
+use Rattle.std.specs.Prelude.{◌==◌, ◌&&◌, not, nat_lt, Bool, List, ℕ, [], ◌∷◌, ◌++◌, length, if◌then◌else◌}
 use Rattle.text.specs.Script.{joins}
 use Rattle.text.specs.declared.line_reader.lines.TheConstants.{MAX_LINE_OCTETS}
 use Rattle.pasted.specs.declared.place.Place.{Place}

@@ -1,5 +1,5 @@
 -- What is noted of pasted lines.
-use Rattle.std.specs.Prelude.{◌-◌, ◌+◌, ◌^◌, ◌==◌, ◌&&◌, not, min, Bool, true, false, List, ℕ, [], codes, drop, if◌then◌else◌}
+use Rattle.std.specs.Prelude.{◌-◌, ◌+◌, ◌^◌, ◌==◌, ◌&&◌, not, min, Bool, false, List, ℕ, [], codes, drop, if◌then◌else◌}
 use Rattle.std.specs.List.{list_any}
 use Rattle.std.specs.Str.{bytes_eq}
 use Rattle.text.specs.Script.{joins}

@@ -1,5 +1,5 @@
 -- What octets come out as from where the reading of them stands.
-use Rattle.std.specs.Prelude.{◌≡◌, Bool, true, false, Option, Some, None, List, ℕ, [], ◌∷◌, ◌++◌, drop, take, ◌+◌, if◌then◌else◌}
+use Rattle.std.specs.Prelude.{◌≡◌, Bool, Option, Some, None, List, ℕ, [], ◌∷◌, ◌++◌, drop, take, ◌+◌, if◌then◌else◌}
 use Rattle.text.specs.Script.{joins}
 use Rattle.pasted.specs.Lines.{Rule, place_behind, ends_line, turned_line, next_place, each_line}
 use Rattle.pasted.specs.declared.place.Place.{Place}

@@ -46,10 +46,7 @@ fn put_without_semicolons<A: Allocator>(
 
 /// Puts the end of a line as it comes out.
 #[tactic(auto, unfolding(crate::specs::Plain::ending))]
-pub(crate) fn put_ending<A: Allocator>(
-    line: &[u8],
-    out: &mut Vec<u8, A>,
-) -> Result<(), AllocError>
+pub(crate) fn put_ending<A: Allocator>(line: &[u8], out: &mut Vec<u8, A>) -> Result<(), AllocError>
     ensures text { IfOk result (λ _. out.new.items ≡ out.old.items ++ ending line.now) }
 {
     if !is_joined(line) {

@@ -37,7 +37,8 @@ pub trait LineRule {
         out: &mut Vec<u8, A>,
     ) -> Result<Place, AllocError>
         ensures text { IfOk result (λ _. out.new.items
-            ≡ out.old.items ++ ((rule self.old).turned line.now.place line.now.text.now ++ line.now.end.now)) }
+            ≡ out.old.items
+            ++ ((rule self.old).turned line.now.place line.now.text.now ++ line.now.end.now)) }
         ensures next { IfOk result (λ place.
             place ≡ (rule self.old).next line.now.place line.now.text.now) }
         ensures rule { rule self.new ≡ rule self.old }

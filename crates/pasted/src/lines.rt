@@ -30,7 +30,8 @@ impl<L: LineRule> Lines<L> {
 
     /// From the beginning of an input on.
     pub fn new(turner: L) -> Lines<L>
-        ensures { meaning_by L.rule result ≡ each_line (L.rule turner) First [] }
+        ensures meaning { meaning_by L.rule result ≡ each_line (L.rule turner) First [] }
+        ensures number { result.number ≡ 1 }
     {
         Lines {
             turner,

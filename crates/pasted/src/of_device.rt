@@ -1,8 +1,9 @@
 //! The lines of tc of one device.
 
-ghost use Rattle.std.specs.Prelude.{◌≡◌, ◌==◌, ◌<◌, ◌+◌, ◌-◌, ◌^◌, ◌++◌, IfOk, OnErr, min, true, false};
-ghost use Rattle.std.specs.List.{filter};
-ghost use Rattle.pasted.specs.Device.{device_rule, is_of_other, line_feeds};
+ghost use Rattle.std.specs.Prelude.{◌≡◌, ◌++◌, ℕ, List, IfOk, OnErr, Some, true, false};
+ghost use Rattle.text.specs.Words.{words_of};
+ghost use Rattle.pasted.specs.OthersNoted.{IsCounted};
+ghost use Rattle.pasted.specs.Device.{device_in, device_rule, is_of_other, line_feeds};
 
 use crate::device::other_device;
 use crate::line_rule::{Line, LineRule};
@@ -21,7 +22,8 @@ pub struct OfDevice<'d> {
 impl<'d> OfDevice<'d> {
     /// What is passed over is added to the note.
     pub fn new(name: &'d [u8], others: &'d mut Others) -> OfDevice<'d>
-        ensures { result.name.now ≡ name.entry.now }
+        ensures name { result.name.now ≡ name.now }
+        ensures others { result.others.now ≡ others.old }
     {
         OfDevice { name, others }
     }
@@ -52,12 +54,15 @@ impl LineRule for OfDevice<'_> {
         out: &mut Vec<u8, A>,
     ) -> Result<Place, AllocError>
         ensures text { IfOk result (λ _. out.new.items ≡ out.old.items
-            ++ ((device_rule self.old.name.now).turned line.now.place line.now.text.now ++ line.now.end.now)) }
+            ++ ((device_rule self.old.name.now).turned line.now.place line.now.text.now
+            ++ line.now.end.now)) }
         ensures next { IfOk result (λ place.
             place ≡ (device_rule self.old.name.now).next line.now.place line.now.text.now) }
         ensures rule { device_rule self.new.name.now ≡ device_rule self.old.name.now }
-        ensures noted { IfOk result (λ _. is_of_other self.old.name.now line.now.text.now ≡ true →
-            self.new.others.now.lines ≡ min (2 ^ 64 - 1) (self.old.others.now.lines + 1)) }
+        ensures noted { IfOk result (λ _. (device : List ℕ)
+            → device_in (words_of line.now.text.now) ≡ Some device
+            → is_of_other self.old.name.now line.now.text.now ≡ true
+            → IsCounted self.old.others.now line.now.number device self.new.others.now) }
         ensures stays { IfOk result (λ _. is_of_other self.old.name.now line.now.text.now ≡ false →
             self.new ≡ self.old) }
         ensures failed { OnErr result (self.new ≡ self.old) }

@@ -1,6 +1,6 @@
 //! What was passed over of other devices.
 
-ghost use Rattle.std.specs.Prelude.{◌≡◌, ◌<◌, ◌+◌, ◌-◌, ◌^◌, [], min, take};
+ghost use Rattle.std.specs.Prelude.{◌≡◌, [], take};
 ghost use Rattle.pasted.specs.declared.others.TheConstants.{MAX_NAME};
 
 use arrayvec::ArrayVec;
@@ -34,6 +34,8 @@ fn kept_name(device: &[u8]) -> ArrayVec<u8, MAX_NAME>
 }
 
 impl Others {
+    ghost use Rattle.pasted.specs.OthersNoted.{IsCounted};
+
     /// None was passed over.
     pub fn none() -> Others
         ensures lines { result.lines ≡ 0 }
@@ -49,11 +51,7 @@ impl Others {
 
     /// One line more, of this number and device.
     pub(crate) fn count(&mut self, number: u64, device: &[u8])
-        ensures lines { self.new.lines ≡ min (2 ^ 64 - 1) (self.old.lines + 1) }
-        ensures first { self.old.lines ≡ 0 → (self.new.first ≡ number)
-            × (self.new.name.items ≡ take MAX_NAME device.now) }
-        ensures later { 0 < self.old.lines → (self.new.first ≡ self.old.first)
-            × (self.new.name ≡ self.old.name) }
+        ensures { IsCounted self.old number device.now self.new }
     {
         if self.lines == 0 {
             self.first = number;

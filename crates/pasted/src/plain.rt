@@ -5,7 +5,9 @@ ghost use Rattle.pasted.specs.Plain.{begins_command, has_mark, is_of_command, pl
 ghost use Rattle.pasted.specs.Notes.{has_blanks, has_semicolon, marks_of_command, marks_of_more, marks_of_part, text_marks};
 
 use crate::ends::{body, is_joined, put_ending};
-use crate::fronts::{command, has_more_prompt, has_prompt, has_sudo, is_command, past_more_prompt, past_prompt};
+use crate::fronts::{
+    command, has_more_prompt, has_prompt, has_sudo, is_command, past_more_prompt, past_prompt,
+};
 use crate::note::Marks;
 use crate::place::{Place, place_behind};
 use crate::quotes::put_unquoted;
@@ -107,10 +109,7 @@ pub(crate) fn put_command<A: Allocator>(
 }
 
 /// Puts a line that is joined to a command as it comes out, and tells what is passed over.
-pub(crate) fn put_more<A: Allocator>(
-    line: &[u8],
-    out: &mut Vec<u8, A>,
-) -> Result<Marks, AllocError>
+pub(crate) fn put_more<A: Allocator>(line: &[u8], out: &mut Vec<u8, A>) -> Result<Marks, AllocError>
     ensures text { IfOk result (λ _. out.new.items ≡ out.old.items ++ plain_more line.now) }
     ensures marks { IfOk result (λ marks. marks ≡ marks_of_more line.now) }
 {

@@ -44,7 +44,8 @@ pub(crate) fn put_unquoted<A: Allocator>(
     octets: &[u8],
     out: &mut Vec<u8, A>,
 ) -> Result<bool, AllocError>
-    ensures text { IfOk result (λ _. out.new.items ≡ out.old.items ++ unquoted_words [] octets.now) }
+    ensures text { IfOk result (λ _. out.new.items
+        ≡ out.old.items ++ unquoted_words [] octets.now) }
     ensures any { IfOk result (λ any. any ≡ has_quoted [] octets.now) }
 {
     let mut rest = octets;

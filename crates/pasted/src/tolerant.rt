@@ -18,7 +18,9 @@ pub struct Tolerant<'n> {
 
 impl<'n> Tolerant<'n> {
     /// What is passed over is added to the note.
-    pub fn new(note: &'n mut Note) -> Tolerant<'n> {
+    pub fn new(note: &'n mut Note) -> Tolerant<'n>
+        ensures { result.note.now ≡ note.old }
+    {
         Tolerant { note }
     }
 }

@@ -1,6 +1,6 @@
-use Rattle.std.proofs.Common.{◌≡◌, ◌++◌, ◌∷◌, [], ap, append_assoc, sym, ◌∙◌, rules}
+use Rattle.std.proofs.Common.{◌++◌, ◌∷◌, [], ap, append_assoc, sym, ◌∙◌}
 use Rattle.std.specs.Prelude.{◌||◌}
-use Rattle.pasted.specs.Plain.{has_quoted, is_quoted, unquoted, unquoted_words}
+use Rattle.pasted.specs.Plain.{has_quoted, unquoted, unquoted_words}
 use Rattle.pasted.proofs.QuoteLaws.{or_assoc, quoted_alone, quoted_first, words_alone, words_first}
 use Rattle.pasted.proofs.quotes.put_unquoted.Goals as goal
 

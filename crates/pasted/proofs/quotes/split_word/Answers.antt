@@ -1,4 +1,4 @@
-use Rattle.std.proofs.Common.{◌≡◌, ◌≤◌, ◌∙◌, true, length, ap, arith}
+use Rattle.std.proofs.Common.{◌≤◌, ◌∙◌, length, ap, arith}
 use Rattle.pasted.specs.Plain.{is_unblank}
 use Rattle.pasted.proofs.QuoteLaws.{all_unblank, word_unblank}
 use Rattle.pasted.proofs.quotes.split_word.Goals as goal
