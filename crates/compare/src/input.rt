@@ -1,0 +1,56 @@
+//! Reads an input, a capture or a table of frames.
+
+ghost use Rattle.std.specs.Prelude.{◌≡◌, ◌-◌, IfOk, IfSome, take, drop, Some};
+
+use crate::faults::Trouble;
+use crate::frame::Frame;
+use crate::payloads::Numbers;
+use crate::records::read_capture;
+use crate::settings::By;
+use crate::table::read_table;
+use job::Fault;
+use std::alloc::Allocator;
+use std::io::Read;
+
+/// How many octets tell a capture from a table.
+const MAGIC: u64 = 4;
+
+/// Whether octets begin with one of the four magic numbers of a classic capture.
+fn begins_capture(octets: &[u8]) -> bool
+    ensures { result ≡ begins_capture octets.now }
+{
+    match octets {
+        [0xa1, 0xb2, 0xc3, 0xd4, ..] | [0xd4, 0xc3, 0xb2, 0xa1, ..] => true,
+        [0xa1, 0xb2, 0x3c, 0x4d, ..] | [0x4d, 0x3c, 0xb2, 0xa1, ..] => true,
+        _ => false,
+    }
+}
+
+/// Reads the first octets of an input, fewer where it ends before.
+fn read_front<A: Allocator, R: Read>(alloc: A, reader: &mut R) -> Result<Vec<u8, A>, Fault<Trouble>>
+{
+    let mut front = Vec::new(alloc);
+    match reader.take(MAGIC).read_to_end(&mut front) {
+        Ok(_) => Ok(front),
+        Err(_) => Err(Fault::Read),
+    }
+}
+
+/// Reads an input, and puts its frames behind others.
+pub(crate) fn read_input<A: Allocator + Clone + Drop, B: Allocator, R: Read + Drop>(
+    alloc: &A,
+    reader: R,
+    numbers: &mut Numbers<A>,
+    by: By,
+    frames: &mut Vec<Frame, B>,
+) -> Result<(), Fault<Trouble>>
+{
+    let mut reader = reader;
+    let front = read_front(alloc, &mut reader)?;
+    let whole = front.as_slice().chain(reader);
+    if begins_capture(&front) {
+        read_capture(alloc, whole, numbers, by, frames)
+    } else {
+        read_table(alloc, whole, by, frames)
+    }
+}

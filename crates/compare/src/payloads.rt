@@ -1,0 +1,28 @@
+//! The different octets of frames, numbered as they first come.
+
+
+
+
+use std::alloc::{AllocError, Allocator};
+use std::collections::HashMap;
+use std::hash::{BuildHasherDefault, FoldHasher};
+
+/// The octets that came, each with its number.
+pub(crate) type Numbers<A> = HashMap<Vec<u8, A>, u64, BuildHasherDefault<FoldHasher>, A>;
+
+/// The number of octets: that which they got when they first came, or the next one.
+pub(crate) fn key_of<A: Allocator + Clone + Drop>(
+    alloc: &A,
+    numbers: &mut Numbers<A>,
+    octets: &[u8],
+) -> Result<u64, AllocError>
+{
+    if let Some(number) = numbers.get(octets) {
+        return Ok(*number);
+    }
+    let number = numbers.len() as u64;
+    let mut copy = Vec::new(alloc.clone()?);
+    copy.extend_from_slice(octets)?;
+    numbers.insert(copy, number)?;
+    Ok(number)
+}

@@ -1,0 +1,123 @@
+//! Reads the frames of a capture.
+
+ghost use Rattle.std.specs.Prelude.{◌≡◌, IfSome};
+
+use crate::faults::{RecordFault, Trouble};
+use crate::frame::Frame;
+use crate::payloads::{Numbers, key_of};
+use crate::settings::By;
+use byteorder::{BigEndian, ByteOrder};
+use capture::{CapFault, CaptureReader, Record, frame_of};
+use job::Fault;
+use std::alloc::Allocator;
+use std::io::Read;
+
+/// The ID behind the type of local experiments, where that stands in front.
+fn id_behind(octets: &[u8]) -> Option<u64>
+    ensures { result ≡ id_behind octets.now }
+{
+    if octets.len() >= 10 && octets[0] == 0x88 && octets[1] == 0xb5 {
+        Some(BigEndian::read_u64(&octets[2..]))
+    } else {
+        None
+    }
+}
+
+/// The ID that the frame of a record carries, if it does.
+fn id_in(record: &Record<'_>) -> Option<u64>
+    ensures { result ≡ id_in record.now.octets.now }
+{
+    let place = if frame_of(record, 0).tagged { 16 } else { 12 };
+    match record.octets.get(place..) {
+        Some(octets) => id_behind(octets),
+        None => None,
+    }
+}
+
+/// Why there is no next record, or no first one.
+fn stopped_at(number: u32, fault: CapFault) -> Fault<Trouble>
+{
+    match fault {
+        CapFault::Read => Fault::Read,
+        CapFault::Memory => Fault::Memory,
+        fault => Fault::Input(Trouble::Record(number, RecordFault::Capture(fault))),
+    }
+}
+
+/// The frame of the record of a number.
+fn record_frame<A: Allocator + Clone + Drop>(
+    alloc: &A,
+    numbers: &mut Numbers<A>,
+    by: By,
+    number: u32,
+    record: &Record<'_>,
+) -> Result<Frame, Fault<Trouble>>
+{
+    match by {
+        By::Order => Ok(Frame {
+            name: u64::from(number),
+            moment: record.moment,
+            key: 0,
+        }),
+        By::Id => match id_in(record) {
+            Some(id) => Ok(Frame {
+                name: id,
+                moment: record.moment,
+                key: id,
+            }),
+            None => Err(Fault::Input(Trouble::Record(number, RecordFault::NoId))),
+        },
+        By::Payload => match key_of(alloc, numbers, record.octets) {
+            Ok(key) => Ok(Frame {
+                name: u64::from(number),
+                moment: record.moment,
+                key,
+            }),
+            Err(_) => Err(Fault::Memory),
+        },
+    }
+}
+
+/// Reads the records that are to come, and puts their frames behind others.
+fn read_records<A: Allocator + Clone + Drop, B: Allocator, C: Allocator, R: Read>(
+    alloc: &A,
+    records: &mut CaptureReader<R, C>,
+    numbers: &mut Numbers<A>,
+    by: By,
+    frames: &mut Vec<Frame, B>,
+) -> Result<(), Fault<Trouble>>
+{
+    let mut number = 0u32;
+    'records: loop {
+        let record = match records.next() {
+            Ok(None) => return Ok(()),
+            Err(fault) => return Err(stopped_at(number, fault)),
+            Ok(Some(record)) => record,
+        };
+        let frame = match record_frame(alloc, numbers, by, number, &record) {
+            Ok(frame) => frame,
+            Err(fault) => return Err(fault),
+        };
+        match frames.push(frame) {
+            Ok(()) => {}
+            Err(_) => return Err(Fault::Memory),
+        }
+        number += 1;
+    }
+}
+
+/// Reads a capture, and puts its frames behind others.
+pub(crate) fn read_capture<A: Allocator + Clone + Drop, B: Allocator, R: Read + Drop>(
+    alloc: &A,
+    capture: R,
+    numbers: &mut Numbers<A>,
+    by: By,
+    frames: &mut Vec<Frame, B>,
+) -> Result<(), Fault<Trouble>>
+{
+    let mut records = match CaptureReader::new(alloc, capture) {
+        Ok(records) => records,
+        Err(fault) => return Err(stopped_at(0, fault)),
+    };
+    read_records(alloc, &mut records, numbers, by, frames)
+}
