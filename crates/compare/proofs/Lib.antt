@@ -1,0 +1,4 @@
+pub mod CountLaws
+pub mod FieldLaws
+pub mod PlaceLaws
+pub mod PutLaws

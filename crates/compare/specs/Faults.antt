@@ -68,9 +68,13 @@ trouble_text side (Troubles.Record number fault) = place_text side (codes " reco
 abbrev pub single_found : List ℕ → ℕ → List ℕ
 single_found what name = concat (what ∷ decimal name ∷ codes "\n" ∷ [])
 
-abbrev pub found_text : Finding → List ℕ
-found_text (Findings.Apart a b by) = concat (
+-- a pair whose moments differ by so much
+abbrev pub apart_found : ℕ → ℕ → ℕ → List ℕ
+apart_found a b by = concat (
     codes "taprio_port: compare: pair " ∷ decimal a ∷ codes " " ∷ decimal b ∷ codes " differs by " ∷ decimal by ∷ codes "\n" ∷ [])
+
+abbrev pub found_text : Finding → List ℕ
+found_text (Findings.Apart a b by) = apart_found a b by
 found_text (Findings.Missing a) = single_found (codes "taprio_port: compare: missing ") a
 found_text (Findings.Extra b) = single_found (codes "taprio_port: compare: extra ") b
 found_text Findings.NoPair = codes "taprio_port: compare: no pair\n"

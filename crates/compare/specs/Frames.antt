@@ -1,6 +1,6 @@
 -- The frames of an input: of a table of frames (RFC 4180, 2, without quotes) its rows that have a start, of a classic capture (pcap-savefile(5)) its records.
-use Rattle.std.specs.Prelude.{◌≡◌, ◌+◌, ◌-◌, ◌^◌, ◌==◌, ◌&&◌, ◌||◌, nat_le, length, drop, position, slice_get, slice_index, Bool, List, ℕ, [], ◌∷◌, ◌++◌, Option, Some, None, Result, Ok, Err, MatchBool, codes, if◌then◌else◌}
-use Rattle.std.specs.List.{position_or_len, slice_split}
+use Rattle.std.specs.Prelude.{◌≡◌, ◌+◌, ◌-◌, ◌^◌, ◌==◌, ◌&&◌, ◌||◌, nat_le, length, drop, slice_get, slice_index, Bool, List, ℕ, [], ◌∷◌, ◌++◌, Option, Some, None, Result, Ok, Err, MatchBool, codes, if◌then◌else◌}
+use Rattle.std.specs.List.{position_or_len}
 use Rattle.std.specs.Str.{bytes_eq}
 use Rattle.std.specs.Str.Lines.{strip_carriage_return}
 use Rattle.byteorder.specs.Endian.{big_number}
@@ -14,8 +14,9 @@ use Rattle.capture.specs.Record.{is_tagged}
 use Rattle.capture.specs.Records.{Entry}
 use Rattle.capture.specs.declared.fault.CapFault.{CapFault}
 use Rattle.capture.specs.declared.format.Format.{Format}
-use Rattle.capture.specs.declared.reader.End.{End}
+use Rattle.capture.specs.declared.reader.End.{End as Ending}
 use Rattle.capture.specs.declared.reader.End.TheVariants.{Whole, Broken as BrokenEnd}
+use Rattle.compare.specs.Fields.{fields_in, place_in}
 use Rattle.compare.specs.declared.faults.RecordFault.{RecordFault}
 use Rattle.compare.specs.declared.faults.RecordFault.TheVariants as Records
 use Rattle.compare.specs.declared.faults.TableFault.{TableFault}
@@ -41,13 +42,13 @@ onto frame reading = record { frames = frame ∷ reading.frames; payloads = read
 
 -- 2. A table: a line with the names of its columns, and then a row on each line
 
--- what stands between the commas of a line; a CR at its end counts for nothing
+-- the fields of a line; a CR at its end counts for nothing
 abbrev pub fields_of : List ℕ → List (List ℕ)
-fields_of line = slice_split (λ octet. octet == 44) (strip_carriage_return line)
+fields_of line = fields_in (strip_carriage_return line)
 
 -- the place of the column of a name
 abbrev pub column_in : List ℕ → List ℕ → Option ℕ
-column_in name line = position (λ field. bytes_eq field name) (fields_of line)
+column_in name line = place_in name (fields_of line)
 
 -- the places of the two columns that count
 abbrev pub columns_at : Option ℕ → Option ℕ → Option Columns
@@ -169,19 +170,19 @@ record_then seen number (Ok frame) behind = onto frame behind
 record_then seen number (Err fault) behind = record_fails seen number fault
 
 -- the frames of records, from a number on, and how they end
-abbrev pub records_reading : By → List (List ℕ) → ℕ → List Entry → End → Reading
+abbrev pub records_reading : By → List (List ℕ) → ℕ → List Entry → Ending → Reading
 records_reading by seen number [] Whole = record { frames = []; payloads = seen; fault = None }
 records_reading by seen number [] (BrokenEnd fault) = record_fails seen number (Records.Capture fault)
 records_reading by seen number (e ∷ es) last =
     record_then seen number (record_frame by seen number e) (records_reading by (seen_by by seen e) (number + 1) es last)
 
 -- by what was read of a capture, whose header may have a fault
-abbrev pub capture_reading : By → List (List ℕ) → Result (List Entry × End) CapFault → Reading
+abbrev pub capture_reading : By → List (List ℕ) → Result (List Entry × Ending) CapFault → Reading
 capture_reading by seen (Ok records) = records_reading by seen 0 records.0 records.1
 capture_reading by seen (Err fault) = record_fails seen 0 (Records.Capture fault)
 
 -- octets as a capture: their records and how they end, or the fault of the file header
-abbrev pub ReadsAs : List ℕ → Result (List Entry × End) CapFault → Type 0
+abbrev pub ReadsAs : List ℕ → Result (List Entry × Ending) CapFault → Type 0
 ReadsAs octets (Ok records) = (format : Format) × IsCapture octets format records.0 records.1
 ReadsAs octets (Err fault) = format_of octets ≡ Err fault
 
@@ -200,5 +201,5 @@ begins_capture octets =
 -- what octets are as an input, where these different octets came before
 abbrev pub Says : By → List (List ℕ) → List ℕ → Reading → Type 0
 Says by seen octets reading =
-    MatchBool (begins_capture octets) ((records : Result (List Entry × End) CapFault) × ReadsAs octets records × (reading ≡ capture_reading by seen records))
-    (reading ≡ table_reading by (script_of octets))
+    MatchBool (begins_capture octets) ((records : Result (List Entry × Ending) CapFault) × ReadsAs octets records × (reading ≡ capture_reading by seen records))
+    (reading ≡ record (table_reading by (script_of octets)) { payloads = seen })

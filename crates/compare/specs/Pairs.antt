@@ -1,5 +1,5 @@
 -- Which frame of one input is compared with which of the other: the n-th of a key with the n-th of that key.
-use Rattle.std.specs.Prelude.{◌-◌, ◌==◌, ◌&&◌, Bool, true, false, not, is_some, count_by, filter, find, map, max, nat_lt, List, ℕ, [], ◌∷◌, ◌++◌, Option, Some, None}
+use Rattle.std.specs.Prelude.{◌+◌, ◌-◌, ◌==◌, ◌&&◌, Bool, true, false, is_none, count_by, filter, find, map, max, nat_lt, List, ℕ, [], ◌∷◌, ◌++◌, Option, Some, None}
 use Rattle.std.specs.List.{fold}
 use Rattle.compare.specs.declared.frame.Frame.{Frame}
 use Rattle.compare.specs.declared.pairs.Comparison.{Comparison}
@@ -18,7 +18,7 @@ counted frames = counted_behind [] frames
 
 -- the frame that is the n-th of a key
 abbrev pub is_nth : ℕ → ℕ → NthFrame → Bool
-is_nth key n c = (key == c.frame.key) && (n == c.nth)
+is_nth key n c = (c.frame.key == key) && (c.nth == n)
 
 abbrev pub partner : List NthFrame → NthFrame → Option NthFrame
 partner others c = find (λ d. is_nth c.frame.key c.nth d) others
@@ -30,7 +30,7 @@ beside c (Some d) = Pair c.frame d.frame
 
 -- a frame of B
 abbrev pub is_extra : List NthFrame → NthFrame → Bool
-is_extra others c = not (is_some (partner others c))
+is_extra others c = is_none (partner others c)
 
 abbrev pub extra_of : NthFrame → Comparison
 extra_of c = Extra c.frame

@@ -1,10 +1,21 @@
 -- What reading an input leaves.
 use Rattle.std.specs.Prelude.{◌≡◌, ⊤, List, ℕ, ◌++◌, Option, Some, None, Result, Ok, Err}
+use Rattle.capture.specs.Captures.{AreRecords}
+use Rattle.capture.specs.CaptureReader.{Left, octets_left}
+use Rattle.capture.specs.Records.{Entry}
+use Rattle.capture.specs.declared.fault.CapFault.{CapFault}
+use Rattle.capture.specs.declared.fault.CapFault.TheVariants as Caps
+use Rattle.capture.specs.declared.reader.End.{End}
 use Rattle.text.specs.declared.line_reader.lines.LineFault.{LineFault}
 use Rattle.text.specs.declared.line_reader.lines.LineFault.TheVariants as LineFaults
 use Rattle.job.specs.declared.fault.Fault.{Fault}
 use Rattle.job.specs.declared.fault.Fault.TheVariants as Faults
 use Rattle.compare.specs.Frames.{Reading, limit_fault}
+use Rattle.compare.specs.declared.faults.CompareInput.{CompareInput}
+use Rattle.compare.specs.declared.faults.CompareInput.TheVariants as Inputs
+use Rattle.compare.specs.declared.faults.RecordFault.{RecordFault}
+use Rattle.compare.specs.declared.faults.RecordFault.TheVariants as Records
+use Rattle.compare.specs.declared.faults.Side.{Side}
 use Rattle.compare.specs.declared.faults.Trouble.{Trouble}
 use Rattle.compare.specs.declared.faults.Trouble.TheVariants as Troubles
 use Rattle.compare.specs.declared.frame.Frame.{Frame}
@@ -21,3 +32,30 @@ Reads (Err (Faults.Input trouble)) reading old new = reading.fault ≡ Some trou
 Reads (Err Faults.Read) reading old new = ⊤
 Reads (Err Faults.Write) reading old new = ⊥
 Reads (Err Faults.Memory) reading old new = ⊤
+
+-- why there is no next record, or no first one
+abbrev pub record_stopped : ℕ → CapFault → Fault Trouble
+record_stopped number Caps.Read = Faults.Read
+record_stopped number Caps.Memory = Faults.Memory
+record_stopped number fault = Faults.Input (Troubles.Record number (Records.Capture fault))
+
+-- the frame of a record is the one that it is said to have; or its fault is
+abbrev pub TakesRecord : ℕ → Result Frame RecordFault → Result Frame (Fault Trouble) → Type 0
+TakesRecord number said (Ok frame) = said ≡ Ok frame
+TakesRecord number said (Err (Faults.Input trouble)) = (fault : RecordFault) × (said ≡ Err fault) × (trouble ≡ Troubles.Record number fault)
+TakesRecord number said (Err Faults.Read) = ⊥
+TakesRecord number said (Err Faults.Write) = ⊥
+TakesRecord number said (Err Faults.Memory) = ⊤
+
+-- of a capture these records come, and then this end
+pub record Comes {R : Type 0} (remaining : R → Option (List ℕ)) (l : Left R) (entries : List Entry) (last : End) : Type 0 where
+  pub octets : List ℕ
+  pub known : octets_left remaining l ≡ Some octets
+  pub are : AreRecords l.format l.number octets entries last
+
+-- the fault of an input, by which of the two it is
+abbrev pub fault_of : Side → Fault Trouble → Fault CompareInput
+fault_of side (Faults.Input trouble) = Faults.Input (Inputs.Input side trouble)
+fault_of side Faults.Read = Faults.Read
+fault_of side Faults.Write = Faults.Write
+fault_of side Faults.Memory = Faults.Memory

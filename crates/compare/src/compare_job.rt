@@ -1,8 +1,12 @@
 //! The program's job: two inputs are compared.
 
-ghost use Rattle.std.specs.Prelude.{◌≡◌, IfSome};
+ghost use Rattle.std.specs.Prelude.{◌≡◌};
 ghost use Rattle.text.specs.Buffered.{writer_contents};
+ghost use Rattle.job.specs.Outcome.{Runs};
 ghost use Rattle.compare.specs.CompareEnd.{ForOutcome, IsCompareEnding};
+ghost use Rattle.compare.specs.Outcome.{whole};
+ghost use Rattle.compare.specs.Pairs.{compared};
+ghost use Rattle.compare.specs.Read.{fault_of};
 
 use crate::faults::{CompareFault, CompareInput, Side, Trouble};
 use crate::frame::Frame;
@@ -20,6 +24,7 @@ use text::octet_writer::BufWriter;
 
 /// The fault of an input, by which of the two it is.
 fn fault_of(side: Side, fault: Fault<Trouble>) -> CompareFault
+    ensures { result ≡ fault_of side fault }
 {
     match fault {
         Fault::Input(trouble) => Fault::Input(CompareInput::Input(side, trouble)),
@@ -37,6 +42,8 @@ fn put_outcome<A: Allocator + Clone, W: Write>(
     within: Option<u128>,
     writer: &mut W,
 ) -> Result<(), CompareFault>
+    ensures { Runs result (W.contents writer.old) (W.contents writer.new)
+        (whole within (compared first.now second.now)) }
 {
     let Ok(all) = compared(alloc, first, second) else {
         return Err(Fault::Memory);
@@ -59,6 +66,8 @@ pub fn compare<A: Allocator, R: Read + Drop, S: Read + Drop, W: Write>(
     second: S,
     writer: &mut W,
 ) -> Result<(), CompareFault>
+    ensures { ForOutcome settings (R.remaining first) (S.remaining second)
+        (λ whole. Runs result (W.contents writer.old) (W.contents writer.new) whole) }
 {
     let alloc = &alloc;
     let mut numbers: Numbers<&A> = HashMap::new(alloc);
@@ -97,6 +106,9 @@ pub fn answer_compare<
     mut answers: BufWriter<W, B>,
     errors: &mut E,
 ) -> (Ended, W)
+    ensures { IsCompareEnding settings (R.remaining first) (S.remaining second) result.0
+        (writer_contents W.contents answers) (W.contents result.1) (E.contents errors.old)
+        (E.contents errors.new) }
 {
     let run = compare(alloc, settings, first, second, &mut answers);
     end_run(run, answers, errors)

@@ -26,10 +26,7 @@ pub(crate) fn counted<A: Allocator + Clone>(
     let mut counts = HashMap::new(alloc.clone()?);
     let mut all = Vec::new(alloc);
     for frame in frames {
-        let nth: u64 = match counts.get(&frame.key) {
-            Some(count) => *count,
-            None => 0,
-        };
+        let nth: u64 = counts.get(&frame.key).copied().unwrap_or(0);
         counts.insert(frame.key, nth + 1)?;
         all.push(NthFrame { frame: *frame, nth })?;
     }

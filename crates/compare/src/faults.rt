@@ -2,7 +2,7 @@
 
 ghost use Rattle.std.specs.Prelude.{◌≡◌};
 ghost use Rattle.text.specs.Writes.{Writes};
-ghost use Rattle.compare.specs.Faults.{capture_kind, capture_name, compare_kind, compare_telling, found_text, place_text, record_name, side_name, single_found, table_kind, table_name, trouble_kind, trouble_text};
+ghost use Rattle.compare.specs.Faults.{apart_found, capture_kind, capture_name, compare_kind, compare_telling, found_text, place_text, record_name, side_name, single_found, table_kind, table_name, trouble_kind, trouble_text};
 
 use capture::CapFault;
 use job::{CaptureKind, Fault, FaultKind, InputFault, LineKind};
@@ -173,7 +173,7 @@ fn put_trouble<W: Write>(writer: &mut W, side: Side, trouble: Trouble) -> Result
 /// Writes the text of a pair whose moments differ by too much.
 fn put_apart<W: Write>(writer: &mut W, a: u64, b: u64, by: u128) -> Result<(), WriteFault>
     ensures { Writes result (W.contents writer.old) (W.contents writer.new)
-        (found_text (Finding.Apart a b by)) }
+        (apart_found a b by) }
 {
     put_parts(
         writer,

@@ -1,6 +1,9 @@
 //! Reads an input, a capture or a table of frames.
 
-ghost use Rattle.std.specs.Prelude.{◌≡◌, ◌-◌, IfOk, IfSome, take, drop, Some};
+ghost use Rattle.std.specs.Prelude.{◌≡◌, ℕ, IfErr, IfOk, IfSome, List, Some, drop, take};
+ghost use Rattle.job.specs.declared.fault.Fault.TheVariants as Faults;
+ghost use Rattle.compare.specs.Frames.{Reading, Says, begins_capture};
+ghost use Rattle.compare.specs.Payloads.{AreNumbered, ReadsNumbered};
 
 use crate::faults::Trouble;
 use crate::frame::Frame;
@@ -28,6 +31,10 @@ fn begins_capture(octets: &[u8]) -> bool
 
 /// Reads the first octets of an input, fewer where it ends before.
 fn read_front<A: Allocator, R: Read>(alloc: A, reader: &mut R) -> Result<Vec<u8, A>, Fault<Trouble>>
+    ensures front { IfSome (R.remaining reader.old) (λ octets. IfOk result
+        (λ front. (front.items ≡ take 4 octets)
+        × (R.remaining reader.new ≡ Some (drop 4 octets)))) }
+    ensures fault { IfErr result (λ fault. fault ≡ Faults.Read) }
 {
     let mut front = Vec::new(alloc);
     match reader.take(MAGIC).read_to_end(&mut front) {
@@ -44,6 +51,9 @@ pub(crate) fn read_input<A: Allocator + Clone + Drop, B: Allocator, R: Read + Dr
     by: By,
     frames: &mut Vec<Frame, B>,
 ) -> Result<(), Fault<Trouble>>
+    ensures { (seen : List (List ℕ)) → AreNumbered seen numbers.old →
+        IfSome (R.remaining reader) (λ octets. (reading : Reading) → Says by seen octets reading →
+        ReadsNumbered result reading frames.old.items frames.new.items numbers.new) }
 {
     let mut reader = reader;
     let front = read_front(alloc, &mut reader)?;

@@ -1,7 +1,9 @@
 //! Which frames of two inputs are compared with each other.
 
-ghost use Rattle.std.specs.Prelude.{◌≡◌, IfOk};
-ghost use Rattle.compare.specs.Pairs.{beside, compared, compared_counted};
+ghost use Rattle.std.specs.Prelude.{◌≡◌, ◌++◌, IfOk, List, OnOk, filter, map};
+ghost use Rattle.compare.specs.Pairs.{beside, compared, extra_of, is_extra, partner};
+ghost use Rattle.compare.specs.Places.{AreAt};
+ghost use Rattle.compare.specs.declared.counted.NthFrame.{NthFrame};
 
 use crate::counted::{NthFrame, counted};
 use crate::frame::Frame;
@@ -21,8 +23,10 @@ pub enum Comparison {
 
 /// The frame with the same key, that has as many of it before, if there is one.
 fn partner<A: Allocator>(others: &Places<A>, counted: &NthFrame) -> Option<NthFrame>
+    ensures { (all : List NthFrame) → AreAt all others.now → result ≡ partner all counted.now }
 {
-    others.get(&(counted.frame.key, counted.nth)).copied()
+    let found = others.get(&(counted.frame.key, counted.nth));
+    found.copied()
 }
 
 /// A frame of A beside its partner in B.
@@ -41,6 +45,9 @@ fn put_first<A: Allocator, B: Allocator>(
     second: &Places<A>,
     all: &mut Vec<Comparison, B>,
 ) -> Result<(), AllocError>
+    ensures { (others : List NthFrame) → AreAt others second.now →
+        OnOk result (all.new.items
+        ≡ all.old.items ++ map (λ c. beside c (partner others c)) first.now) }
 {
     for counted in first {
         all.push(beside(counted, partner(second, counted)))?;
@@ -54,10 +61,14 @@ fn put_extras<A: Allocator, B: Allocator>(
     second: &[NthFrame],
     all: &mut Vec<Comparison, B>,
 ) -> Result<(), AllocError>
+    ensures { (others : List NthFrame) → AreAt others first.now →
+        OnOk result (all.new.items
+        ≡ all.old.items ++ map extra_of (filter (is_extra others) second.now)) }
 {
     for counted in second {
-        if partner(first, counted).is_none() {
-            all.push(Comparison::Extra(counted.frame))?;
+        match partner(first, counted) {
+            None => all.push(Comparison::Extra(counted.frame))?,
+            Some(_) => {}
         }
     }
     Ok(())

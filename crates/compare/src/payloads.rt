@@ -3,6 +3,10 @@
 
 
 
+ghost use Rattle.std.specs.Prelude.{◌≡◌, ℕ, IfOk, List};
+ghost use Rattle.compare.specs.Frames.{payload_key, seen_after};
+ghost use Rattle.compare.specs.Payloads.{AreNumbered};
+
 use std::alloc::{AllocError, Allocator};
 use std::collections::HashMap;
 use std::hash::{BuildHasherDefault, FoldHasher};
@@ -16,6 +20,9 @@ pub(crate) fn key_of<A: Allocator + Clone + Drop>(
     numbers: &mut Numbers<A>,
     octets: &[u8],
 ) -> Result<u64, AllocError>
+    ensures { (seen : List (List ℕ)) → AreNumbered seen numbers.old →
+        IfOk result (λ key. (key ≡ payload_key seen octets.now)
+        × AreNumbered (seen_after seen octets.now) numbers.new) }
 {
     if let Some(number) = numbers.get(octets) {
         return Ok(*number);

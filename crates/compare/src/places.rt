@@ -1,8 +1,7 @@
 //! Where the n-th frame of a key is.
 
-ghost use Rattle.std.specs.Prelude.{◌≡◌, ◌&&◌, ◌==◌, ℕ, IfOk, find};
-ghost use Rattle.std.specs.HashMap.{get};
-ghost use Rattle.compare.specs.Pairs.{is_nth};
+ghost use Rattle.std.specs.Prelude.{IfOk};
+ghost use Rattle.compare.specs.Places.{AreAt};
 
 use crate::counted::NthFrame;
 use std::alloc::{AllocError, Allocator};
@@ -17,9 +16,7 @@ pub(crate) fn places<A: Allocator + Clone>(
     alloc: A,
     all: &[NthFrame],
 ) -> Result<Places<A>, AllocError>
-    ensures { IfOk result (λ places. (key nth : ℕ) →
-        get (λ x y. (x.0 == y.0) && (x.1 == y.1)) places (record { 0 = key; 1 = nth })
-        ≡ find (is_nth key nth) all.now) }
+    ensures { IfOk result (AreAt all.now) }
 {
     let mut places = HashMap::new(alloc);
     let mut left = all.len();

@@ -1,6 +1,14 @@
 //! Reads the frames of a capture.
 
-ghost use Rattle.std.specs.Prelude.{◌≡◌, IfSome};
+ghost use Rattle.std.specs.Prelude.{◌≡◌, ℕ, IfOk, IfSome, List, None, Result};
+ghost use Rattle.capture.specs.CaptureReader.{left};
+ghost use Rattle.capture.specs.Record.{entry};
+ghost use Rattle.capture.specs.Records.{Entry};
+ghost use Rattle.capture.specs.declared.fault.CapFault.{CapFault};
+ghost use Rattle.capture.specs.declared.reader.End.{End};
+ghost use Rattle.compare.specs.Frames.{ReadsAs, capture_reading, id_behind, id_in, record_frame, records_reading, seen_by};
+ghost use Rattle.compare.specs.Payloads.{AreNumbered, ReadsNumbered};
+ghost use Rattle.compare.specs.Read.{Comes, TakesRecord, record_stopped};
 
 use crate::faults::{RecordFault, Trouble};
 use crate::frame::Frame;
@@ -25,7 +33,7 @@ fn id_behind(octets: &[u8]) -> Option<u64>
 
 /// The ID that the frame of a record carries, if it does.
 fn id_in(record: &Record<'_>) -> Option<u64>
-    ensures { result ≡ id_in record.now.octets.now }
+    ensures { result ≡ id_in «record».now.octets.now }
 {
     let place = if frame_of(record, 0).tagged { 16 } else { 12 };
     match record.octets.get(place..) {
@@ -35,7 +43,8 @@ fn id_in(record: &Record<'_>) -> Option<u64>
 }
 
 /// Why there is no next record, or no first one.
-fn stopped_at(number: u32, fault: CapFault) -> Fault<Trouble>
+fn record_stopped(number: u32, fault: CapFault) -> Fault<Trouble>
+    ensures { result ≡ record_stopped number fault }
 {
     match fault {
         CapFault::Read => Fault::Read,
@@ -52,6 +61,9 @@ fn record_frame<A: Allocator + Clone + Drop>(
     number: u32,
     record: &Record<'_>,
 ) -> Result<Frame, Fault<Trouble>>
+    ensures { (seen : List (List ℕ)) → AreNumbered seen numbers.old →
+        TakesRecord number (record_frame by seen number (entry «record».now)) result
+        × IfOk result (λ _. AreNumbered (seen_by by seen (entry «record».now)) numbers.new) }
 {
     match by {
         By::Order => Ok(Frame {
@@ -86,12 +98,18 @@ fn read_records<A: Allocator + Clone + Drop, B: Allocator, C: Allocator, R: Read
     by: By,
     frames: &mut Vec<Frame, B>,
 ) -> Result<(), Fault<Trouble>>
+    requires begun { (left records.old).ended ≡ None }
+    requires first { (left records.old).number ≡ 0 }
+    ensures { (seen : List (List ℕ)) → AreNumbered seen numbers.old →
+        (entries : List Entry) (last : End) → Comes R.remaining (left records.old) entries last →
+        ReadsNumbered result (records_reading by seen 0 entries last) frames.old.items
+        frames.new.items numbers.new }
 {
     let mut number = 0u32;
     'records: loop {
         let record = match records.next() {
             Ok(None) => return Ok(()),
-            Err(fault) => return Err(stopped_at(number, fault)),
+            Err(fault) => return Err(record_stopped(number, fault)),
             Ok(Some(record)) => record,
         };
         let frame = match record_frame(alloc, numbers, by, number, &record) {
@@ -114,10 +132,15 @@ pub(crate) fn read_capture<A: Allocator + Clone + Drop, B: Allocator, R: Read + 
     by: By,
     frames: &mut Vec<Frame, B>,
 ) -> Result<(), Fault<Trouble>>
+    ensures { (seen : List (List ℕ)) → AreNumbered seen numbers.old →
+        IfSome (R.remaining capture)
+        (λ octets. (said : Result (List Entry × End) CapFault) → ReadsAs octets said →
+        ReadsNumbered result (capture_reading by seen said) frames.old.items
+        frames.new.items numbers.new) }
 {
     let mut records = match CaptureReader::new(alloc, capture) {
         Ok(records) => records,
-        Err(fault) => return Err(stopped_at(0, fault)),
+        Err(fault) => return Err(record_stopped(0, fault)),
     };
     read_records(alloc, &mut records, numbers, by, frames)
 }
