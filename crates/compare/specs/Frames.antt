@@ -188,15 +188,15 @@ ReadsAs octets (Err fault) = format_of octets ≡ Err fault
 
 -- 4. Which of the two
 
--- whether octets begin with these four
-abbrev pub begins_with : ℕ → ℕ → ℕ → ℕ → List ℕ → Bool
-begins_with a b c d octets =
-    nat_le 4 (length octets) && (slice_index octets 0 == a) && (slice_index octets 1 == b) && (slice_index octets 2 == c) && (slice_index octets 3 == d)
+-- a magic number of a classic capture, octet by octet: in microseconds or nanoseconds, the highest first or the lowest
+abbrev pub is_magic : ℕ → ℕ → ℕ → ℕ → Bool
+is_magic a b c d =
+    ((a == 0xa1) && (b == 0xb2) && (c == 0xc3) && (d == 0xd4)) || ((a == 0xd4) && (b == 0xc3) && (c == 0xb2) && (d == 0xa1))
+    || ((a == 0xa1) && (b == 0xb2) && (c == 0x3c) && (d == 0x4d)) || ((a == 0x4d) && (b == 0x3c) && (c == 0xb2) && (d == 0xa1))
 
--- one of the four magic numbers of a classic capture: in microseconds or nanoseconds, in either order of octets
+-- whether octets begin with one
 abbrev pub begins_capture : List ℕ → Bool
-begins_capture octets =
-    begins_with 0xa1 0xb2 0xc3 0xd4 octets || begins_with 0xd4 0xc3 0xb2 0xa1 octets || begins_with 0xa1 0xb2 0x3c 0x4d octets || begins_with 0x4d 0x3c 0xb2 0xa1 octets
+begins_capture octets = nat_le 4 (length octets) && is_magic (slice_index octets 0) (slice_index octets 1) (slice_index octets 2) (slice_index octets 3)
 
 -- what octets are as an input, where these different octets came before
 abbrev pub Says : By → List (List ℕ) → List ℕ → Reading → Type 0

@@ -2,7 +2,7 @@
 
 ghost use Rattle.std.specs.Prelude.{◌≡◌, ℕ, IfErr, IfOk, IfSome, List, Some, drop, take};
 ghost use Rattle.job.specs.declared.fault.Fault.TheVariants as Faults;
-ghost use Rattle.compare.specs.Frames.{Reading, Says, begins_capture};
+ghost use Rattle.compare.specs.Frames.{Reading, Says, begins_capture, is_magic};
 ghost use Rattle.compare.specs.Payloads.{AreNumbered, ReadsNumbered};
 
 use crate::faults::Trouble;
@@ -18,15 +18,22 @@ use std::io::Read;
 /// How many octets tell a capture from a table.
 const MAGIC: u64 = 4;
 
-/// Whether octets begin with one of the four magic numbers of a classic capture.
+/// Whether four octets are a magic number of a classic capture: in microseconds or nanoseconds, the highest first or
+/// the lowest.
+fn is_magic(a: u8, b: u8, c: u8, d: u8) -> bool
+    ensures { result ≡ is_magic a b c d }
+{
+    (a == 0xa1 && b == 0xb2 && c == 0xc3 && d == 0xd4)
+        || (a == 0xd4 && b == 0xc3 && c == 0xb2 && d == 0xa1)
+        || (a == 0xa1 && b == 0xb2 && c == 0x3c && d == 0x4d)
+        || (a == 0x4d && b == 0x3c && c == 0xb2 && d == 0xa1)
+}
+
+/// Whether octets begin with one.
 fn begins_capture(octets: &[u8]) -> bool
     ensures { result ≡ begins_capture octets.now }
 {
-    match octets {
-        [0xa1, 0xb2, 0xc3, 0xd4, ..] | [0xd4, 0xc3, 0xb2, 0xa1, ..] => true,
-        [0xa1, 0xb2, 0x3c, 0x4d, ..] | [0x4d, 0x3c, 0xb2, 0xa1, ..] => true,
-        _ => false,
-    }
+    octets.len() >= 4 && is_magic(octets[0], octets[1], octets[2], octets[3])
 }
 
 /// Reads the first octets of an input, fewer where it ends before.

@@ -2,7 +2,8 @@
 
 ghost use Rattle.std.specs.Prelude.{◌≡◌, IfSome};
 ghost use Rattle.text.specs.LineReader.{script_left};
-ghost use Rattle.compare.specs.Frames.{columns_in, frame_in, limit_fault, row_frame, rows_reading, table_reading};
+ghost use Rattle.text.specs.Script.{script_of};
+ghost use Rattle.compare.specs.Frames.{columns_in, frame_in, limit_fault, lines_reading, row_frame, rows_reading, table_reading};
 ghost use Rattle.compare.specs.Read.{Reads, line_failed};
 
 use crate::faults::{TableFault, Trouble};

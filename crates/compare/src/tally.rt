@@ -148,7 +148,12 @@ pub(crate) fn greatest_difference(all: &[Comparison]) -> u128
 fn offender(all: &[Comparison], within: u128) -> Option<Comparison>
     ensures { result ≡ find (offends within) all.now }
 {
-    all.iter().find(|c| c.offends(within)).copied()
+    for compared in all {
+        if compared.offends(within) {
+            return Some(*compared);
+        }
+    }
+    None
 }
 
 /// What is found first, where it is asked for.

@@ -1,4 +1,4 @@
-use Rattle.std.proofs.Common.{rules, ◌==◌, ◌≡◌, ◌<◌, ℕ, get_or, length, sym, arith, true}
+use Rattle.std.proofs.Common.{rules, ◌==◌, ◌≡◌, ◌<◌, get_or, length, sym, true}
 use Rattle.std.proofs.lemmas.List.Sums.{position_or_len_is}
 use Rattle.compare.proofs.fields.front_length.Goals as goal
 
