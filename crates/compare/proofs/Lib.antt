@@ -1,6 +1,8 @@
 pub mod CaptureLaws
 pub mod CountLaws
 pub mod FieldLaws
+pub mod FrontLaws
+pub mod PayloadLaws
 pub mod PlaceLaws
 pub mod PutLaws
 pub mod RecordLaws

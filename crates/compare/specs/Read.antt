@@ -1,5 +1,5 @@
 -- What reading an input leaves.
-use Rattle.std.specs.Prelude.{◌≡◌, ⊤, List, ℕ, ◌++◌, Option, Some, None, Result, Ok, Err}
+use Rattle.std.specs.Prelude.{◌≡◌, ◌⊎◌, ⊤, List, ℕ, [], ◌++◌, length, Option, Some, None, Result, Ok, Err}
 use Rattle.capture.specs.Captures.{AreRecords}
 use Rattle.capture.specs.CaptureReader.{Left, octets_left}
 use Rattle.capture.specs.Records.{Entry}
@@ -59,3 +59,14 @@ fault_of side (Faults.Input trouble) = Faults.Input (Inputs.Input side trouble)
 fault_of side Faults.Read = Faults.Read
 fault_of side Faults.Write = Faults.Write
 fault_of side Faults.Memory = Faults.Memory
+
+-- of known octets these are in front: four, or all of them; and the others are still to come
+pub record StandsInFront (octets front : List ℕ) (new : Option (List ℕ)) : Type 0 where
+  pub rest : List ℕ
+  pub known : new ≡ Some rest
+  pub parts : octets ≡ front ++ rest
+  pub enough : (length front ≡ 4) ⊎ (rest ≡ [])
+
+abbrev pub IsFront : Option (List ℕ) → List ℕ → Option (List ℕ) → Type 0
+IsFront None front new = ⊤
+IsFront (Some octets) front new = StandsInFront octets front new

@@ -1,9 +1,13 @@
 //! Reads an input, a capture or a table of frames.
 
-ghost use Rattle.std.specs.Prelude.{◌≡◌, ℕ, IfErr, IfOk, IfSome, List, Some, drop, take};
+ghost use Rattle.std.specs.Prelude.{◌≡◌, ◌⊎◌, ℕ, IfErr, IfOk, IfSome, List, Ok};
+ghost use Rattle.text.specs.Source.{TakesOctet};
+ghost use Rattle.job.specs.declared.fault.Fault.{Fault};
 ghost use Rattle.job.specs.declared.fault.Fault.TheVariants as Faults;
 ghost use Rattle.compare.specs.Frames.{Reading, Says, begins_capture, is_magic};
 ghost use Rattle.compare.specs.Payloads.{AreNumbered, ReadsNumbered};
+ghost use Rattle.compare.specs.Read.{IsFront};
+ghost use Rattle.compare.specs.declared.faults.Trouble.{Trouble};
 
 use crate::faults::Trouble;
 use crate::frame::Frame;
@@ -16,7 +20,7 @@ use std::alloc::Allocator;
 use std::io::Read;
 
 /// How many octets tell a capture from a table.
-const MAGIC: u64 = 4;
+const MAGIC: usize = 4;
 
 /// Whether four octets are a magic number of a classic capture: in microseconds or nanoseconds, the highest first or
 /// the lowest.
@@ -36,18 +40,43 @@ fn begins_capture(octets: &[u8]) -> bool
     octets.len() >= 4 && is_magic(octets[0], octets[1], octets[2], octets[3])
 }
 
-/// Reads the first octets of an input, fewer where it ends before.
-fn read_front<A: Allocator, R: Read>(alloc: A, reader: &mut R) -> Result<Vec<u8, A>, Fault<Trouble>>
-    ensures front { IfSome (R.remaining reader.old) (λ octets. IfOk result
-        (λ front. (front.items ≡ take 4 octets)
-        × (R.remaining reader.new ≡ Some (drop 4 octets)))) }
+/// The next octet of an input, if there is one.
+fn next_octet<R: Read>(reader: &mut R) -> Result<Option<u8>, Fault<Trouble>>
+    ensures octet { IfOk result
+        (λ o. TakesOctet {E = Fault Trouble} (R.remaining reader.old) (Ok o)
+        (R.remaining reader.new)) }
     ensures fault { IfErr result (λ fault. fault ≡ Faults.Read) }
 {
-    let mut front = Vec::new(alloc);
-    match reader.take(MAGIC).read_to_end(&mut front) {
-        Ok(_) => Ok(front),
+    let mut octet = [0u8];
+    match reader.read(&mut octet) {
+        Ok(0) => Ok(None),
+        Ok(_) => Ok(Some(octet[0])),
         Err(_) => Err(Fault::Read),
     }
+}
+
+/// Reads the first octets of an input, fewer where it ends before.
+fn read_front<A: Allocator + Clone, R: Read>(
+    alloc: A,
+    reader: &mut R,
+) -> Result<Vec<u8, A>, Fault<Trouble>>
+    ensures front { IfOk result
+        (λ front. IsFront (R.remaining reader.old) front.items (R.remaining reader.new)) }
+    ensures fault { IfErr result (λ fault. (fault ≡ Faults.Read) ⊎ (fault ≡ Faults.Memory)) }
+{
+    let mut front = Vec::new(alloc);
+    'octets: while front.len() < MAGIC {
+        let octet = match next_octet(reader) {
+            Ok(Some(octet)) => octet,
+            Ok(None) => return Ok(front),
+            Err(fault) => return Err(fault),
+        };
+        match front.push(octet) {
+            Ok(()) => {}
+            Err(_) => return Err(Fault::Memory),
+        }
+    }
+    Ok(front)
 }
 
 /// Reads an input, and puts its frames behind others.
@@ -63,7 +92,10 @@ pub(crate) fn read_input<A: Allocator + Clone + Drop, B: Allocator, R: Read + Dr
         ReadsNumbered result reading frames.old.items frames.new.items numbers.new) }
 {
     let mut reader = reader;
-    let front = read_front(alloc, &mut reader)?;
+    let front = match read_front(alloc, &mut reader) {
+        Ok(front) => front,
+        Err(fault) => return Err(fault),
+    };
     let whole = front.as_slice().chain(reader);
     if begins_capture(&front) {
         read_capture(alloc, whole, numbers, by, frames)

@@ -24,8 +24,9 @@ pub(crate) fn key_of<A: Allocator + Clone + Drop>(
         IfOk result (λ key. (key ≡ payload_key seen octets.now)
         × AreNumbered (seen_after seen octets.now) numbers.new) }
 {
-    if let Some(number) = numbers.get(octets) {
-        return Ok(*number);
+    match numbers.get(octets).copied() {
+        Some(number) => return Ok(number),
+        None => {}
     }
     let number = numbers.len() as u64;
     let mut copy = Vec::new(alloc.clone()?);
