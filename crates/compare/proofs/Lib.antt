@@ -2,6 +2,8 @@ pub mod CaptureLaws
 pub mod CountLaws
 pub mod FieldLaws
 pub mod FrontLaws
+pub mod InputLaws
+pub mod JobLaws
 pub mod PayloadLaws
 pub mod PlaceLaws
 pub mod PutLaws
