@@ -1,7 +1,7 @@
 -- An input, by its first octets.
-use Rattle.std.proofs.Common.{◌≡◌, ◌⊎◌, ℕ, ◌++◌, List, [], Bool, true, false, Option, Some, None, Result, Ok, Err, inl, inr, refl, sym, ap, ◌∙◌, subst}
+use Rattle.std.proofs.Common.{◌≡◌, ◌⊎◌, ℕ, List, Bool, true, false, Option, Some, None, Result, Ok, Err, inl, inr, sym, ap, ◌∙◌, subst}
 use Rattle.std.specs.Prelude.{IfSome, MatchBool}
-use Rattle.std.specs.HashMap.{HashMap, IsEmpty, get_by}
+use Rattle.std.specs.HashMap.{HashMap}
 use Rattle.std.specs.declared.vec.Vec.{Vec}
 use Rattle.std.specs.Fmt.{option_append}
 use Rattle.capture.specs.Records.{Entry}
@@ -37,7 +37,7 @@ module _ {A S : Type 0} (by : By) (seen : List (List ℕ)) (old new : List Frame
       → ((said : Result (List Entry × End) CapFault) → ReadsAs octets said → ReadsNumbered r (capture_reading by seen said) old new numbers) → ReadsNumbered r reading old new numbers
   capture_at r octets reading e says w =
       let P : Bool → Type 0 = λ b. MatchBool b ((records : Result (List Entry × End) CapFault) × ReadsAs octets records × (reading ≡ capture_reading by seen records))
-          (reading ≡ record (table_reading by (script_of octets)) { payloads = seen }) in
+      (reading ≡ record (table_reading by (script_of octets)) { payloads = seen }) in
       let said = subst P e says in
       let Q : Reading → Type 0 = λ x. ReadsNumbered r x old new numbers in
       subst Q (sym said.2) (w said.0 said.1)
@@ -62,7 +62,7 @@ module _ {A S : Type 0} (by : By) (seen : List (List ℕ)) (old new : List Frame
       → Reads r (table_reading by (script_of octets)) old new → ReadsNumbered r reading old new numbers
   table_at r octets reading e says are w =
       let P : Bool → Type 0 = λ b. MatchBool b ((records : Result (List Entry × End) CapFault) × ReadsAs octets records × (reading ≡ capture_reading by seen records))
-          (reading ≡ record (table_reading by (script_of octets)) { payloads = seen }) in
+      (reading ≡ record (table_reading by (script_of octets)) { payloads = seen }) in
       let Q : Reading → Type 0 = λ x. ReadsNumbered r x old new numbers in
       subst Q (sym (subst P e says)) (with_seen r (table_reading by (script_of octets)) are w)
 

@@ -6,8 +6,7 @@ use Rattle.std.specs.Map.{lookup}
 use Rattle.std.specs.Str.{bytes_eq}
 use Rattle.std.specs.declared.vec.Vec.{Vec}
 use Rattle.text.proofs.Fronts.{Appends-nil, sent_none}
-use Rattle.job.specs.Outcome.{Outcome, Runs, RunsOut}
-use Rattle.job.specs.RunEnd.{IsOrFails}
+use Rattle.job.specs.Outcome.{Outcome, Runs}
 use Rattle.job.specs.declared.fault.Fault.{Fault}
 use Rattle.job.specs.declared.fault.Fault.TheVariants as Faults
 use Rattle.compare.specs.CompareEnd.{ForOutcome}

@@ -1,5 +1,5 @@
 -- The numbers of octets, as a map has them.
-use Rattle.std.proofs.Common.{◌≡◌, ◌≢◌, ◌⊎◌, ℕ, ◌+◌, ◌≤◌, ◌<◌, Bool, true, false, cond, eqb, List, [], ◌∷◌, ◌++◌, length, Option, Some, None, inl, inr, refl, sym, ap, ◌∙◌, subst, arith}
+use Rattle.std.proofs.Common.{◌≡◌, ◌⊎◌, ℕ, ◌+◌, ◌≤◌, ◌<◌, Bool, true, false, cond, eqb, List, [], ◌∷◌, ◌++◌, length, Option, Some, None, inl, inr, refl, sym, ap, ◌∙◌, subst, arith}
 use Rattle.std.specs.Prelude.{is_some, not}
 use Rattle.std.specs.Bool.{Decides}
 use Rattle.std.specs.HashMap.{HashMap, UpdatesBy, get_by, hash_map_len}
@@ -57,13 +57,13 @@ module _ (seen : List (List ℕ)) (octets : List ℕ) where
       let push = position_or_len_push (λ x. bytes_eq other x) seen octets in
       let few : payload_key seen other ≤ length seen = prefix_len-le-length (λ x. not (bytes_eq other x)) seen in
       elim (eqb_tells (payload_key seen other) (length seen)) [
-        inl same ↦
-          let key : payload_key (seen ++ octets ∷ []) other ≡ length seen + 1 = push ∙ (λ i. cond (same.0 i) (length seen + cond (apart i) 0 1) (payload_key seen other)) in
-          none_at (payload_key (seen ++ octets ∷ []) other) (length (seen ++ octets ∷ [])) (key ∙ sym longer) ∙ sym (none_at (payload_key seen other) (length seen) same.1)
-      | inr differ ↦
-          let key : payload_key (seen ++ octets ∷ []) other ≡ payload_key seen other = push ∙ ap (λ (b : Bool). cond b (length seen + cond (bytes_eq other octets) 0 1) (payload_key seen other)) differ.0 in
-          let short : payload_key seen other < length seen = omega (arith, few, differ.1) in
-          some_at (payload_key (seen ++ octets ∷ []) other) (length (seen ++ octets ∷ [])) (omega (arith, key, short, longer)) ∙ ap Some key ∙ sym (some_at (payload_key seen other) (length seen) short)
+        | inl same ↦
+            let key : payload_key (seen ++ octets ∷ []) other ≡ length seen + 1 = push ∙ (λ i. cond (same.0 i) (length seen + cond (apart i) 0 1) (payload_key seen other)) in
+            none_at (payload_key (seen ++ octets ∷ []) other) (length (seen ++ octets ∷ [])) (key ∙ sym longer) ∙ sym (none_at (payload_key seen other) (length seen) same.1)
+        | inr differ ↦
+            let key : payload_key (seen ++ octets ∷ []) other ≡ payload_key seen other = push ∙ ap (λ (b : Bool). cond b (length seen + cond (bytes_eq other octets) 0 1) (payload_key seen other)) differ.0 in
+            let short : payload_key seen other < length seen = omega (arith, few, differ.1) in
+            some_at (payload_key (seen ++ octets ∷ []) other) (length (seen ++ octets ∷ [])) (omega (arith, key, short, longer)) ∙ ap Some key ∙ sym (some_at (payload_key seen other) (length seen) short)
       ]
 
 -- 3. The map
@@ -97,14 +97,15 @@ module _ {A S : Type 0} where
       let after : seen_after seen octets ≡ seen ++ octets ∷ [] = ap (λ (b : Bool). cond b (seen ++ octets ∷ []) seen) new in
       let absent : old ≡ None = was ∙ ap (λ (l : List ℕ). get_by (has l) m) items ∙ none in
       let one : hash_map_len n ≡ hash_map_len m + 1 = len ∙ ap (λ (o : Option ℕ). hash_map_len m + cond (is_some o) 0 1) absent in
-      let P : List (List ℕ) → Type 0 = λ all. AreNumbered all n in
-      (is ∙ are.count ∙ sym place,
-      subst P (sym after) (record {
-        each = λ other. elim (bytes_tell other octets) [
-            inl same ↦
-              ap (λ (l : List ℕ). get_by (has l) n) (same.1 ∙ sym items) ∙ found m n key number updates ∙ ap Some (is ∙ are.count) ∙ sym (new_number seen octets new)
-              ∙ ap (number_of (seen ++ octets ∷ [])) (sym same.1)
-          | inr apart ↦ others_kept m n key number updates other (λ e. apart.1 (e ∙ items)) ∙ are.each other ∙ sym (kept_number seen octets other apart.0)
+      let P : List (List ℕ) → Type 0 = λ all. AreNumbered all n in (
+        is ∙ are.count ∙ sym place,
+        subst P (sym after) (record {
+          each = λ other. elim (bytes_tell other octets) [
+            | inl same ↦
+                ap (λ (l : List ℕ). get_by (has l) n) (same.1 ∙ sym items) ∙ found m n key number updates ∙ ap Some (is ∙ are.count) ∙ sym (new_number seen octets new)
+                ∙ ap (number_of (seen ++ octets ∷ [])) (sym same.1)
+            | inr apart ↦ others_kept m n key number updates other (λ e. apart.1 (e ∙ items)) ∙ are.each other ∙ sym (kept_number seen octets other apart.0)
           ];
-        count = one ∙ ap (λ (k : ℕ). k + 1) are.count ∙ sym (longer seen octets);
-      }))
+          count = one ∙ ap (λ (k : ℕ). k + 1) are.count ∙ sym (longer seen octets);
+        }),
+      )

@@ -1,5 +1,5 @@
 -- A list that is put behind another, one by one: what is there, and what is to come, is all.
-use Rattle.std.proofs.Common.{◌≡◌, Bool, true, false, List, [], ◌∷◌, ◌++◌, sym, ap, ◌∙◌, append_assoc, cond}
+use Rattle.std.proofs.Common.{◌≡◌, List, [], ◌∷◌, ◌++◌, sym, ap, ◌∙◌, append_assoc}
 
 module _ {A : Type 0} (whole now : List A) where
   -- one more is put

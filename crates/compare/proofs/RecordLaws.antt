@@ -16,7 +16,7 @@ use Rattle.job.specs.declared.fault.Fault.{Fault}
 use Rattle.job.specs.declared.fault.Fault.TheVariants as Faults
 use Rattle.compare.specs.Frames.{Reading, record_frame, record_then, records_reading, seen_by}
 use Rattle.compare.specs.Payloads.{AreNumbered, ReadsNumbered}
-use Rattle.compare.specs.Read.{Comes, Reads, TakesRecord, record_stopped}
+use Rattle.compare.specs.Read.{Comes, TakesRecord, record_stopped}
 use Rattle.compare.specs.declared.faults.RecordFault.{RecordFault}
 use Rattle.compare.specs.declared.faults.RecordFault.TheVariants as Records
 use Rattle.compare.specs.declared.faults.Trouble.{Trouble}
@@ -160,10 +160,10 @@ module _ {A S : Type 0} (by : By) (whole : Reading) (last : End) (old : List Fra
       -- the records stop
       pub stops : {r : Result (Unit {0}) (Fault Trouble)} (f : CapFault) → Next remaining l (Err f) after → r ≡ Err (record_stopped number f) → ReadsNumbered r whole old now numbers
       stops f p h = elim (stopped_by number f) [
-          inl read ↦ no_read numbers now (h ∙ ap Err read)
+        | inl read ↦ no_read numbers now (h ∙ ap Err read)
         | inr (inl memory) ↦ no_memory numbers now (h ∙ ap Err memory)
         | inr (inr other) ↦ broken f p other.0 (h ∙ ap Err other.1)
-        ]
+      ]
 
       module _ (e : Entry) (p : Next remaining l (Ok (Some e)) after) where
         abbrev tail : Reading

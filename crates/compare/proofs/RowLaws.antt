@@ -2,12 +2,12 @@
 use Rattle.std.proofs.Common.{◌≡◌, ℕ, List, [], ◌∷◌, ◌++◌, Option, Some, None, Result, Ok, Err, true, false, refl, sym, ap, ◌∙◌, subst, append_assoc, append-nil}
 use Rattle.std.specs.Prelude.{IfSome, option_map}
 use Rattle.text.specs.LineReader.{Advances}
-use Rattle.text.specs.Script.{Script, End, Broken, Line, script_of}
+use Rattle.text.specs.Script.{Script, Line, script_of}
 use Rattle.text.specs.declared.line_reader.lines.LineFault.{LineFault}
 use Rattle.text.specs.declared.line_reader.lines.LineFault.TheVariants as LineFaults
 use Rattle.job.specs.declared.fault.Fault.{Fault}
 use Rattle.job.specs.declared.fault.Fault.TheVariants as Faults
-use Rattle.compare.specs.Frames.{Reading, behind_head, columns_in, frame_in, line_fails, lines_reading, row_then, rows_reading}
+use Rattle.compare.specs.Frames.{Reading, behind_head, columns_in, frame_in, lines_reading, row_then, rows_reading}
 use Rattle.compare.specs.Read.{Reads, line_failed}
 use Rattle.compare.specs.declared.faults.TableFault.{TableFault}
 use Rattle.compare.specs.declared.faults.TableFault.TheVariants as Tables

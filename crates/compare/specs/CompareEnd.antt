@@ -1,8 +1,7 @@
 -- What a run of the program on two inputs leaves.
-use Rattle.std.specs.Prelude.{List, ℕ, [], Option, Result, IfSome}
-use Rattle.job.specs.Outcome.{Outcome, Runs, RunsOut}
+use Rattle.std.specs.Prelude.{List, ℕ, [], Option, IfSome}
+use Rattle.job.specs.Outcome.{Outcome, RunsOut}
 use Rattle.job.specs.RunEnd.{IsLetOut, IsRunEnding}
-use Rattle.job.specs.declared.fault.Fault.{Fault}
 use Rattle.job.specs.declared.report.Ended.{Ended}
 use Rattle.compare.specs.Faults.{compare_telling}
 use Rattle.compare.specs.Frames.{Reading, Says}

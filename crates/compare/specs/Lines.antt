@@ -1,7 +1,7 @@
 -- The text of a comparison: a line for each frame, and a summary.
-use Rattle.std.specs.Prelude.{ℕ, List, [], ◌∷◌, ◌++◌, ◌-◌, ◌==◌, nat_lt, count_by, codes, decimal, if◌then◌else◌}
+use Rattle.std.specs.Prelude.{ℕ, List, [], ◌∷◌, ◌++◌, ◌-◌, nat_lt, count_by, codes, decimal, if◌then◌else◌}
 use Rattle.std.specs.List.{concat, flat_map}
-use Rattle.compare.specs.Pairs.{difference, greatest_difference, is_earlier, is_later, is_missing, is_pair, is_same, is_surplus}
+use Rattle.compare.specs.Pairs.{greatest_difference, is_earlier, is_later, is_missing, is_pair, is_same, is_surplus}
 use Rattle.compare.specs.declared.frame.Frame.{Frame}
 use Rattle.compare.specs.declared.pairs.Comparison.{Comparison}
 use Rattle.compare.specs.declared.pairs.Comparison.TheVariants.{Pair, Missing, Extra}

@@ -1,5 +1,5 @@
 -- What is written for two inputs, and the fault that ends the run.
-use Rattle.std.specs.Prelude.{ℕ, List, [], ◌==◌, nat_lt, count_by, find, Bool, true, false, Option, Some, None, if◌then◌else◌}
+use Rattle.std.specs.Prelude.{ℕ, List, [], ◌==◌, nat_lt, count_by, find, Bool, true, Option, Some, None, if◌then◌else◌}
 use Rattle.job.specs.Outcome.{Outcome}
 use Rattle.compare.specs.Frames.{Reading}
 use Rattle.compare.specs.Lines.{compared_text}

@@ -1,5 +1,5 @@
 -- The numbers of octets that came, as a map has them.
-use Rattle.std.specs.Prelude.{◌≡◌, ◌==◌, ⊤, ℕ, List, length, Option, Some, None, Result, Ok, IfOk, if◌then◌else◌}
+use Rattle.std.specs.Prelude.{◌≡◌, ◌==◌, ℕ, List, length, Option, Some, None, Result, IfOk, if◌then◌else◌}
 use Rattle.std.specs.HashMap.{HashMap, get_by, hash_map_len}
 use Rattle.std.specs.Str.{bytes_eq}
 use Rattle.std.specs.declared.vec.Vec.{Vec}

@@ -77,7 +77,13 @@ pub fn compare<A: Allocator, R: Read + Drop, S: Read + Drop, W: Write>(
         Err(fault) => return Err(fault_of(Side::First, fault)),
     }
     let mut second_frames = Vec::new(alloc);
-    match read_input(&alloc, second, &mut numbers, settings.by, &mut second_frames) {
+    match read_input(
+        &alloc,
+        second,
+        &mut numbers,
+        settings.by,
+        &mut second_frames,
+    ) {
         Ok(()) => {}
         Err(fault) => return Err(fault_of(Side::Second, fault)),
     }

@@ -19,8 +19,6 @@ mod records;
 mod settings;
 mod table;
 mod tally;
-#[cfg(test)]
-mod tests;
 
 pub use compare_job::{answer_compare, compare};
 pub use counted::NthFrame;

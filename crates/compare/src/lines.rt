@@ -74,11 +74,7 @@ fn put_pair<W: Write>(writer: &mut W, a: &Frame, b: &Frame) -> Result<(), WriteF
 }
 
 /// Writes a frame without a partner.
-fn put_single<'a, W: Write>(
-    writer: &mut W,
-    word: &'a [u8],
-    frame: &Frame,
-) -> Result<(), WriteFault>
+fn put_single<'a, W: Write>(writer: &mut W, word: &'a [u8], frame: &Frame) -> Result<(), WriteFault>
     ensures { Writes result (W.contents writer.old) (W.contents writer.new)
         (single_line word.now frame.now) }
 {

@@ -1,8 +1,5 @@
 //! The different octets of frames, numbered as they first come.
 
-
-
-
 ghost use Rattle.std.specs.Prelude.{◌≡◌, ℕ, IfOk, List};
 ghost use Rattle.compare.specs.Frames.{payload_key, seen_after};
 ghost use Rattle.compare.specs.Payloads.{AreNumbered};

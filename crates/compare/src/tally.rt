@@ -141,7 +141,8 @@ pub(crate) fn earlier(all: &[Comparison]) -> usize
 pub(crate) fn greatest_difference(all: &[Comparison]) -> u128
     ensures { result ≡ greatest_difference all.now }
 {
-    all.iter().fold(0, |greatest, c| greatest.max(c.difference()))
+    all.iter()
+        .fold(0, |greatest, c| greatest.max(c.difference()))
 }
 
 /// The first frame that offends, if one does.

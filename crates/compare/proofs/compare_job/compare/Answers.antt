@@ -1,4 +1,4 @@
-use Rattle.std.proofs.Common.{List, [], Err, ap, sym, subst}
+use Rattle.std.proofs.Common.{List, [], Err, ap, subst}
 use Rattle.job.specs.Outcome.{Runs}
 use Rattle.compare.specs.Outcome.{whole}
 use Rattle.compare.specs.Pairs.{compared}

@@ -1,4 +1,4 @@
-use Rattle.std.proofs.Common.{◌≡◌, ◌+◌, ◌++◌, ◌∷◌, [], List, Option, Some, None, cond, map, filter, drop, get_or, ap, sym, ◌∙◌, append-nil, subst, arith}
+use Rattle.std.proofs.Common.{◌≡◌, ◌+◌, ◌++◌, ◌∷◌, List, Option, Some, None, cond, map, filter, drop, get_or, ap, sym, ◌∙◌, append-nil, subst, arith}
 use Rattle.std.proofs.lemmas.List.{at_drop_all, at_drop_more}
 use Rattle.std.specs.Prelude.{is_none}
 use Rattle.std.specs.declared.vec.Vec.{Vec}
@@ -23,12 +23,12 @@ loop-counted-preserved g c = λ others at.
     let Q : Vec Comparison _ → Type 0 = λ v. v.items ++ F rest ≡ c.args.all.now.items ++ F second in
     let whole = c.args.all.now.items ++ F second in
     elim c.match-partner.branch [
-      in-None+in_ok-push-in-None w ↦
-        let none : partner others here ≡ None = sym (c.partner.ensures others at) ∙ w.in-None.is in
-        subst Q (sym w.all-is) (subst P (sym w.in_ok-push-in-None.ensures.items) (put_more whole c.loop-counted.all.items (extra_of here) (F (drop i second)) (F rest) (c.loop-counted.invariant others at) (left ∙ ap G none)))
-    | in-Some w ↦
-        let some : partner others here ≡ Some _ = sym (c.partner.ensures others at) ∙ w.in-Some.is in
-        subst Q (sym w.all-is) (put_none whole c.loop-counted.all.items (F (drop i second)) (F rest) (c.loop-counted.invariant others at) (left ∙ ap G some))
+      | in-None+in_ok-push-in-None w ↦
+          let none : partner others here ≡ None = sym (c.partner.ensures others at) ∙ w.in-None.is in
+          subst Q (sym w.all-is) (subst P (sym w.in_ok-push-in-None.ensures.items) (put_more whole c.loop-counted.all.items (extra_of here) (F (drop i second)) (F rest) (c.loop-counted.invariant others at) (left ∙ ap G none)))
+      | in-Some w ↦
+          let some : partner others here ≡ Some _ = sym (c.partner.ensures others at) ∙ w.in-Some.is in
+          subst Q (sym w.all-is) (put_none whole c.loop-counted.all.items (F (drop i second)) (F rest) (c.loop-counted.invariant others at) (left ∙ ap G some))
     ]
 
 pub returns : goal.returns

@@ -1,4 +1,4 @@
-use Rattle.std.proofs.Common.{◌≡◌, get_or, ◌++◌, ◌∷◌, [], List, Option, map, ap, sym, ◌∙◌, append-nil, drop, subst, ◌+◌, arith}
+use Rattle.std.proofs.Common.{◌≡◌, get_or, ◌++◌, ◌∷◌, [], List, map, ap, sym, ◌∙◌, append-nil, drop, subst, ◌+◌, arith}
 use Rattle.std.proofs.lemmas.List.{at_drop_all, at_drop_more}
 use Rattle.compare.specs.Pairs.{beside, partner}
 use Rattle.compare.specs.declared.counted.NthFrame.{NthFrame}
