@@ -16,8 +16,7 @@ use Rattle.job.specs.declared.fault.Fault.{Fault}
 use Rattle.job.specs.declared.fault.Fault.TheVariants as Faults
 use Rattle.compare.specs.Frames.{Reading, ReadsAs, capture_reading, records_reading}
 use Rattle.compare.specs.Payloads.{ReadsNumbered}
-use Rattle.compare.specs.Read.{Comes, record_stopped}
-use Rattle.compare.specs.declared.faults.RecordFault.TheVariants as Records
+use Rattle.compare.specs.Read.{Comes, header_stopped}
 use Rattle.compare.specs.declared.faults.Trouble.{Trouble}
 use Rattle.compare.specs.declared.faults.Trouble.TheVariants as Troubles
 use Rattle.compare.specs.declared.frame.Frame.{Frame}
@@ -50,13 +49,13 @@ module _ {A S : Type 0} (by : By) (seen : List (List ℕ)) (old now : List Frame
 
   -- the header has this fault
   headed_by : (octets : List ℕ) (f : CapFault) (r : Result (Unit {0}) (Fault Trouble)) (said : Result (List Entry × End) CapFault) → format_of octets ≡ Err f → ReadsAs octets said
-      → r ≡ Err (Faults.Input (Troubles.Record 0 (Records.Capture f))) → ReadsNumbered r (capture_reading by seen said) old now numbers
+      → r ≡ Err (Faults.Input (Troubles.Header f)) → ReadsNumbered r (capture_reading by seen said) old now numbers
   headed_by octets f r (Ok records) is reads h = absurd (let both = sym is ∙ reads.1.0 in cc)
   headed_by octets f r (Err fault) is reads h =
       let same : Err f ≡ Err fault = sym is ∙ reads in
       let faults : f ≡ fault = cc in
       let P : Result (Unit {0}) (Fault Trouble) → Type 0 = λ x. ReadsNumbered x (capture_reading by seen (Err fault)) old now numbers in
-      subst P (sym h) (record { reads = ap (λ (x : CapFault). Some (Troubles.Record 0 (Records.Capture x))) (sym faults); numbered = tt })
+      subst P (sym h) (record { reads = ap (λ (x : CapFault). Some (Troubles.Header x)) (sym faults); numbered = tt })
 
   failed : (f : Fault Trouble) (r : Result (Unit {0}) (Fault Trouble)) (reading : Reading) → (f ≡ Faults.Read) → r ≡ Err f → ReadsNumbered r reading old now numbers
   failed f r reading e h =
@@ -69,7 +68,7 @@ module _ {A S : Type 0} (by : By) (seen : List (List ℕ)) (old now : List Frame
       subst P (sym (h ∙ ap Err e)) (record { reads = tt; numbered = tt })
 
   -- there is no reader
-  unheaded : (octets : List ℕ) (f : CapFault) (r : Result (Unit {0}) (Fault Trouble)) (said : Result (List Entry × End) CapFault) → IsHeaderFault (Some octets) f → ReadsAs octets said → r ≡ Err (record_stopped 0 f)
+  unheaded : (octets : List ℕ) (f : CapFault) (r : Result (Unit {0}) (Fault Trouble)) (said : Result (List Entry × End) CapFault) → IsHeaderFault (Some octets) f → ReadsAs octets said → r ≡ Err (header_stopped f)
       → ReadsNumbered r (capture_reading by seen said) old now numbers
   unheaded octets Caps.ShortHeader r said is reads h = headed_by octets Caps.ShortHeader r said is reads h
   unheaded octets Caps.BadMagic r said is reads h = headed_by octets Caps.BadMagic r said is reads h
@@ -84,7 +83,7 @@ module _ {A S : Type 0} (by : By) (seen : List (List ℕ)) (old now : List Frame
   unheaded octets Caps.BadShift r said is reads h = absurd is
   unheaded octets Caps.Write r said is reads h = absurd is
 
-  pub no_reader : (known : Option (List ℕ)) (f : CapFault) (r : Result (Unit {0}) (Fault Trouble)) → IsHeaderFault known f → r ≡ Err (record_stopped 0 f)
+  pub no_reader : (known : Option (List ℕ)) (f : CapFault) (r : Result (Unit {0}) (Fault Trouble)) → IsHeaderFault known f → r ≡ Err (header_stopped f)
       → IfSome known (λ octets. (said : Result (List Entry × End) CapFault) → ReadsAs octets said → ReadsNumbered r (capture_reading by seen said) old now numbers)
   no_reader None f r is h = tt
   no_reader (Some octets) f r is h = λ said reads. unheaded octets f r said is reads h

@@ -60,8 +60,12 @@ abbrev pub place_text : Side → List ℕ → ℕ → List ℕ → List ℕ
 place_text side what number name = concat (
     codes "taprio_port: " ∷ side_name side ∷ what ∷ decimal number ∷ codes ": " ∷ name ∷ codes "\n" ∷ [])
 
+abbrev pub header_text : Side → CapFault → List ℕ
+header_text side fault = concat (codes "taprio_port: " ∷ side_name side ∷ codes " header: " ∷ capture_name fault ∷ codes "\n" ∷ [])
+
 abbrev pub trouble_text : Side → Trouble → List ℕ
 trouble_text side (Troubles.Line number fault) = place_text side (codes " line ") number (table_name fault)
+trouble_text side (Troubles.Header fault) = header_text side fault
 trouble_text side (Troubles.Record number fault) = place_text side (codes " record ") number (record_name fault)
 
 -- a frame without a partner
@@ -117,6 +121,7 @@ capture_kind Caps.Memory = Kinds.OutOfMemory
 
 abbrev pub trouble_kind : Trouble → FaultKind
 trouble_kind (Troubles.Line number fault) = table_kind fault
+trouble_kind (Troubles.Header fault) = capture_kind fault
 trouble_kind (Troubles.Record number (Records.Capture fault)) = capture_kind fault
 trouble_kind (Troubles.Record number Records.NoId) = Kinds.Capture CaptureKinds.BadLink
 

@@ -165,6 +165,11 @@ seen_by Payload seen e = seen_after seen e.octets
 abbrev pub record_fails : List (List ℕ) → ℕ → RecordFault → Reading
 record_fails seen number fault = record { frames = []; payloads = seen; fault = Some (Troubles.Record number fault) }
 
+-- nothing but the fault of a file header
+abbrev pub header_fails : List (List ℕ) → CapFault → Reading
+header_fails seen fault = record { frames = []; payloads = seen; fault = Some (Troubles.Header fault) }
+
+-- by the frame of a record, and what the records after it give
 abbrev pub record_then : List (List ℕ) → ℕ → Result Frame RecordFault → Reading → Reading
 record_then seen number (Ok frame) behind = onto frame behind
 record_then seen number (Err fault) behind = record_fails seen number fault
@@ -179,7 +184,7 @@ records_reading by seen number (e ∷ es) last =
 -- by what was read of a capture, whose header may have a fault
 abbrev pub capture_reading : By → List (List ℕ) → Result (List Entry × Ending) CapFault → Reading
 capture_reading by seen (Ok records) = records_reading by seen 0 records.0 records.1
-capture_reading by seen (Err fault) = record_fails seen 0 (Records.Capture fault)
+capture_reading by seen (Err fault) = header_fails seen fault
 
 -- octets as a capture: their records and how they end, or the fault of the file header
 abbrev pub ReadsAs : List ℕ → Result (List Entry × Ending) CapFault → Type 0

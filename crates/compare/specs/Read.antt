@@ -33,7 +33,13 @@ Reads (Err Faults.Read) reading old new = ⊤
 Reads (Err Faults.Write) reading old new = ⊥
 Reads (Err Faults.Memory) reading old new = ⊤
 
--- why there is no next record, or no first one
+-- why a capture isn't opened
+abbrev pub header_stopped : CapFault → Fault Trouble
+header_stopped Caps.Read = Faults.Read
+header_stopped Caps.Memory = Faults.Memory
+header_stopped fault = Faults.Input (Troubles.Header fault)
+
+-- why there is no next record
 abbrev pub record_stopped : ℕ → CapFault → Fault Trouble
 record_stopped number Caps.Read = Faults.Read
 record_stopped number Caps.Memory = Faults.Memory

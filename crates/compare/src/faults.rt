@@ -2,7 +2,7 @@
 
 ghost use Rattle.std.specs.Prelude.{◌≡◌};
 ghost use Rattle.text.specs.Writes.{Writes};
-ghost use Rattle.compare.specs.Faults.{apart_found, capture_kind, capture_name, compare_kind, compare_telling, found_text, place_text, record_name, side_name, single_found, table_kind, table_name, trouble_kind, trouble_text};
+ghost use Rattle.compare.specs.Faults.{apart_found, capture_kind, capture_name, compare_kind, compare_telling, found_text, header_text, place_text, record_name, side_name, single_found, table_kind, table_name, trouble_kind, trouble_text};
 
 use capture::CapFault;
 use job::{CaptureKind, Fault, FaultKind, InputFault, LineKind};
@@ -50,7 +50,9 @@ pub enum RecordFault {
 pub enum Trouble {
     /// The line of this number of a table, counted in physical lines from 1.
     Line(u32, TableFault),
-    /// The record of this number of a capture, from 0; a fault of the header is at record 0.
+    /// The file header of a capture.
+    Header(CapFault),
+    /// The record of this number of a capture, from 0.
     Record(u32, RecordFault),
 }
 
@@ -156,6 +158,23 @@ fn put_place<'a, W: Write>(
     )
 }
 
+/// Writes the fault of a file header.
+fn put_header<W: Write>(writer: &mut W, side: Side, fault: CapFault) -> Result<(), WriteFault>
+    ensures { Writes result (W.contents writer.old) (W.contents writer.new)
+        (header_text side fault) }
+{
+    put_parts(
+        writer,
+        &[
+            Part::Text(b"taprio_port: "),
+            Part::Text(side_name(side)),
+            Part::Text(b" header: "),
+            Part::Text(capture_name(fault)),
+            Part::Text(b"\n"),
+        ],
+    )
+}
+
 fn put_trouble<W: Write>(writer: &mut W, side: Side, trouble: Trouble) -> Result<(), WriteFault>
     ensures { Writes result (W.contents writer.old) (W.contents writer.new)
         (trouble_text side trouble) }
@@ -164,6 +183,7 @@ fn put_trouble<W: Write>(writer: &mut W, side: Side, trouble: Trouble) -> Result
         Trouble::Line(number, fault) => {
             put_place(writer, side, b" line ", number, table_name(fault))
         }
+        Trouble::Header(fault) => put_header(writer, side, fault),
         Trouble::Record(number, fault) => {
             put_place(writer, side, b" record ", number, record_name(fault))
         }
@@ -252,6 +272,7 @@ fn trouble_kind(trouble: Trouble) -> FaultKind
 {
     match trouble {
         Trouble::Line(_, fault) => table_kind(fault),
+        Trouble::Header(fault) => capture_kind(fault),
         Trouble::Record(_, RecordFault::Capture(fault)) => capture_kind(fault),
         Trouble::Record(_, RecordFault::NoId) => FaultKind::Capture(CaptureKind::BadLink),
     }

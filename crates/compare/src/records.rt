@@ -8,7 +8,7 @@ ghost use Rattle.capture.specs.declared.fault.CapFault.{CapFault};
 ghost use Rattle.capture.specs.declared.reader.End.{End};
 ghost use Rattle.compare.specs.Frames.{ReadsAs, capture_reading, id_behind, id_in, record_frame, records_reading, seen_by};
 ghost use Rattle.compare.specs.Payloads.{AreNumbered, ReadsNumbered};
-ghost use Rattle.compare.specs.Read.{Comes, TakesRecord, record_stopped};
+ghost use Rattle.compare.specs.Read.{Comes, TakesRecord, header_stopped, record_stopped};
 
 use crate::faults::{RecordFault, Trouble};
 use crate::frame::Frame;
@@ -42,7 +42,18 @@ fn id_in(record: &Record<'_>) -> Option<u64>
     }
 }
 
-/// Why there is no next record, or no first one.
+/// Why a capture isn't opened.
+fn header_stopped(fault: CapFault) -> Fault<Trouble>
+    ensures { result ≡ header_stopped fault }
+{
+    match fault {
+        CapFault::Read => Fault::Read,
+        CapFault::Memory => Fault::Memory,
+        fault => Fault::Input(Trouble::Header(fault)),
+    }
+}
+
+/// Why there is no next record.
 fn record_stopped(number: u32, fault: CapFault) -> Fault<Trouble>
     ensures { result ≡ record_stopped number fault }
 {
@@ -140,7 +151,7 @@ pub(crate) fn read_capture<A: Allocator + Clone + Drop, B: Allocator, R: Read + 
 {
     let mut records = match CaptureReader::new(alloc, capture) {
         Ok(records) => records,
-        Err(fault) => return Err(record_stopped(0, fault)),
+        Err(fault) => return Err(header_stopped(fault)),
     };
     read_records(alloc, &mut records, numbers, by, frames)
 }
