@@ -8,6 +8,8 @@ pub mod capture_tests;
 #[cfg(test)]
 mod checks;
 #[cfg(test)]
+mod comparisons;
+#[cfg(test)]
 mod failures;
 #[cfg(test)]
 mod frames;

@@ -1,0 +1,11 @@
+pub mod CaptureLaws
+pub mod CountLaws
+pub mod FieldLaws
+pub mod FrontLaws
+pub mod InputLaws
+pub mod JobLaws
+pub mod PayloadLaws
+pub mod PlaceLaws
+pub mod PutLaws
+pub mod RecordLaws
+pub mod RowLaws

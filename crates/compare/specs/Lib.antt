@@ -1,0 +1,11 @@
+pub mod CompareEnd
+pub mod Faults
+pub mod Fields
+pub mod Frames
+pub mod Lines
+pub mod Outcome
+pub mod Pairs
+pub mod Payloads
+pub mod Places
+pub mod Read
+pub mod Settings
