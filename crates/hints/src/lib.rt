@@ -12,9 +12,9 @@ mod linux;
 mod marks;
 mod near;
 mod passed;
-mod pasted;
 mod script_words;
 mod sharers;
+mod shell_words;
 mod warnings;
 
 pub use blocks::{put_block_fault, put_rounded};

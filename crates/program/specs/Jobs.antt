@@ -26,9 +26,11 @@ use Rattle.replay.specs.Words.{IsReplayEnding, got}
 use Rattle.replay.specs.declared.timing.BadTiming.{BadTiming}
 use Rattle.replay.specs.declared.timing.Timing.{Timing}
 use Rattle.program.specs.Given.{IsGivenBounds, IsGivenFrames, IsGivenPaths, IsGivenPlan, IsGivenStreams, flag_in, bounds_in, draws_in, checks_in, is_strict, memory_text, over_input_text, plan_in, settings_in, timing_in}
-use Rattle.pcapng.specs.declared.any.CaptureFormat.{CaptureFormat}
+use Rattle.program.specs.Compared.{IsGivenCompare, compare_in}
 use Rattle.program.specs.Plain.{input_of}
-use Rattle.program.specs.Reading.{format_in, format_text, read_as}
+use Rattle.program.specs.Reading.{form_in, form_text, read_as}
+use Rattle.program.specs.declared.capture_input.BadForm.{BadForm}
+use Rattle.program.specs.declared.capture_input.CaptureForm.{CaptureForm}
 use Rattle.program.specs.Strict.{IsStrictEnding}
 use Rattle.program.specs.Table.{name_of, program_app}
 use Rattle.program.specs.declared.job_name.JobName.{JobName}
@@ -44,31 +46,31 @@ pub record IsReplayed (settings : Setup) (timing : Timing) (capture : Option (Li
 
 -- The end of a replay of what is open: memory is out before anything is read; or that of the files, with the standard input as the capture where none
 -- is open, read in its format.
-abbrev pub IsReplayedOrForgotten : Setup → Timing → CaptureFormat → Option (Option (List ℕ)) → Option (List ℕ) → Ended → (old new errors_old errors_new : Option (List ℕ)) → Type 0
-IsReplayedOrForgotten settings timing format capture input ended old new errors_old errors_new =
+abbrev pub IsReplayedOrForgotten : Setup → Timing → CaptureForm → Option (Option (List ℕ)) → Option (List ℕ) → Ended → (old new errors_old errors_new : Option (List ℕ)) → Type 0
+IsReplayedOrForgotten settings timing form capture input ended old new errors_old errors_new =
     IsUnanswered 4 memory_text ended old new errors_old errors_new
-    ⊎ IsReplayed settings timing (read_as format (unwrap_or capture input)) ended old new errors_old errors_new
+    ⊎ IsReplayed settings timing (read_as form (unwrap_or capture input)) ended old new errors_old errors_new
 
--- the capture of a replay is the standard input where the words say so, and else some octets of a file; it is read in its format
-abbrev pub IsCapture : CaptureFormat → Found → Option (List ℕ) → Option (List ℕ) → Type 0
-IsCapture format found input capture = first_value found (codes "capture") ≡ Some (codes "-") → capture ≡ read_as format input
+-- the capture of a replay is the standard input where the words say so, and else some octets of a file; it is read in its form
+abbrev pub IsCapture : CaptureForm → Found → Option (List ℕ) → Option (List ℕ) → Type 0
+IsCapture form found input capture = first_value found (codes "capture") ≡ Some (codes "-") → capture ≡ read_as form input
 
--- The end of a replay with these settings: a value is refused; or a word about time stamps; or one about the format of the capture; or a file can't be opened,
+-- The end of a replay with these settings: a value is refused; or a word about time stamps; or one about the form of the capture; or a file can't be opened,
 -- or the output is an input, or memory is out, before anything is read; or that of the files.
-abbrev pub IsReplayBy : Result Setup BadValue → Result Timing BadTiming → Option CaptureFormat → Found → Option (List ℕ) → Ended → (old new errors_old errors_new : Option (List ℕ)) → Type 0
-IsReplayBy (Err value) timing format found input ended old new errors_old errors_new = IsRefusal value ended old new errors_old errors_new
-IsReplayBy (Ok settings) (Err bad) format found input ended old new errors_old errors_new = IsUnanswered 2 (timing_text bad) ended old new errors_old errors_new
-IsReplayBy (Ok settings) (Ok timing) None found input ended old new errors_old errors_new = IsUnanswered 2 format_text ended old new errors_old errors_new
-IsReplayBy (Ok settings) (Ok timing) (Some format) found input ended old new errors_old errors_new =
+abbrev pub IsReplayBy : Result Setup BadValue → Result Timing BadTiming → Result CaptureForm BadForm → Found → Option (List ℕ) → Ended → (old new errors_old errors_new : Option (List ℕ)) → Type 0
+IsReplayBy (Err value) timing form found input ended old new errors_old errors_new = IsRefusal value ended old new errors_old errors_new
+IsReplayBy (Ok settings) (Err bad) form found input ended old new errors_old errors_new = IsUnanswered 2 (timing_text bad) ended old new errors_old errors_new
+IsReplayBy (Ok settings) (Ok timing) (Err bad) found input ended old new errors_old errors_new = IsUnanswered 2 (form_text bad) ended old new errors_old errors_new
+IsReplayBy (Ok settings) (Ok timing) (Ok form) found input ended old new errors_old errors_new =
     ((path : List ℕ) × IsUnanswered 4 (open_text path) ended old new errors_old errors_new)
     ⊎ (((path : List ℕ) × IsUnanswered 2 (over_input_text path) ended old new errors_old errors_new)
     ⊎ (IsUnanswered 4 memory_text ended old new errors_old errors_new
-    ⊎ ((capture : Option (List ℕ)) × IsCapture format found input capture × IsReplayed settings timing capture ended old new errors_old errors_new)))
+    ⊎ ((capture : Option (List ℕ)) × IsCapture form found input capture × IsReplayed settings timing capture ended old new errors_old errors_new)))
 
 -- The end of a replay by what the words give.
 abbrev pub IsGivenReplay : Found → Option (List ℕ) → Ended → (old new errors_old errors_new : Option (List ℕ)) → Type 0
 IsGivenReplay found input ended old new errors_old errors_new =
-    IsReplayBy (settings_in CAPTURE_END found) (timing_in found) (format_in (first_value found (codes "format"))) found input ended old new errors_old errors_new
+    IsReplayBy (settings_in CAPTURE_END found) (timing_in found) (form_in found) found input ended old new errors_old errors_new
 
 -- The end of a job by what the words give it, on what the standard input has.
 abbrev pub IsJobEnding : JobName → Found → Option (List ℕ) → Ended → (old new errors_old errors_new : Option (List ℕ)) → Type 0
@@ -89,6 +91,7 @@ IsJobEnding Names.Draw found input ended old new errors_old errors_new =
     IsDrawEnding (settings_in greatest_moment found) (draws_in found) input ended old new errors_old errors_new
 IsJobEnding Names.Frames found input ended old new errors_old errors_new =
     IsGivenFrames found (first_value found (codes "capture")) (first_value found (codes "by-stream")) input ended old new errors_old errors_new
+IsJobEnding Names.Compare found input ended old new errors_old errors_new = IsGivenCompare (compare_in found) ended old new errors_old errors_new
 
 -- an end, and the same of a strict run, which has status 1 where something was found and all else is done
 abbrev pub IsJudged : Bool → Ended → Ended → Type 0

@@ -1,3 +1,4 @@
+pub mod Compared
 pub mod Given
 pub mod Jobs
 pub mod Plain

@@ -22,6 +22,7 @@ name_of Names.Paths = codes "paths"
 name_of Names.Plan = codes "plan"
 name_of Names.Draw = codes "draw"
 name_of Names.Frames = codes "frames"
+name_of Names.Compare = codes "compare"
 
 -- `--NAME VALUE`, or nothing
 abbrev pub option : Text → Rule
@@ -46,7 +47,7 @@ rules_of Names.Script =
     ∷ flag (codes "strict") ∷ flag (codes "strict-frames") ∷ flag (codes "explain") ∷ []
 rules_of Names.Replay =
     option (codes "rate") ∷ option (codes "mtu") ∷ option (codes "room") ∷ option (codes "until") ∷ option (codes "stamp")
-    ∷ option (codes "shift") ∷ option (codes "format") ∷ flag (codes "tolerant") ∷ option (codes "device") ∷ flag (codes "summary") ∷ flag (codes "progress") ∷ flag (codes "strict") ∷ flag (codes "strict-frames") ∷ flag (codes "explain")
+    ∷ option (codes "shift") ∷ option (codes "format") ∷ option (codes "fcs") ∷ flag (codes "tolerant") ∷ option (codes "device") ∷ flag (codes "summary") ∷ flag (codes "progress") ∷ flag (codes "strict") ∷ flag (codes "strict-frames") ∷ flag (codes "explain")
     ∷ file (codes "script") ∷ file (codes "capture") ∷ file (codes "out") ∷ []
 rules_of Names.Check =
     option (codes "rate") ∷ option (codes "mtu") ∷ option (codes "map") ∷ flag (codes "shares") ∷ flag (codes "windows")
@@ -70,7 +71,9 @@ rules_of Names.Draw =
     ∷ option (codes "to") ∷ option (codes "width") ∷ flag (codes "tolerant") ∷ option (codes "device") ∷ flag (codes "strict") ∷ flag (codes "explain") ∷ []
 rules_of Names.Frames =
     option (codes "rate") ∷ option (codes "mtu") ∷ option (codes "room") ∷ option (codes "until")
-    ∷ excluding (option (codes "capture")) ∷ option (codes "format") ∷ option (codes "by-stream") ∷ flag (codes "tolerant") ∷ option (codes "device") ∷ flag (codes "strict") ∷ flag (codes "explain") ∷ []
+    ∷ excluding (option (codes "capture")) ∷ option (codes "format") ∷ option (codes "fcs") ∷ option (codes "by-stream") ∷ flag (codes "tolerant") ∷ option (codes "device") ∷ flag (codes "strict") ∷ flag (codes "explain") ∷ []
+rules_of Names.Compare =
+    option (codes "by") ∷ option (codes "within") ∷ flag (codes "explain") ∷ file (codes "first") ∷ file (codes "second") ∷ []
 
 -- a job, with its words
 abbrev pub job_shape : JobName → Shape
@@ -80,7 +83,7 @@ job_shape job = record (new_shape (name_of job)) { rules = rules_of job }
 abbrev pub program_app : App
 program_app = record {
   top = record (new_shape (codes "taprio_port")) { is_leaf = false; has_version = true; subcommand_required = true };
-  subs = map job_shape (Names.Script ∷ Names.Replay ∷ Names.Check ∷ Names.Streams ∷ Names.Bounds ∷ Names.Paths ∷ Names.Plan ∷ Names.Draw ∷ Names.Frames ∷ []);
+  subs = map job_shape (Names.Script ∷ Names.Replay ∷ Names.Check ∷ Names.Streams ∷ Names.Bounds ∷ Names.Paths ∷ Names.Plan ∷ Names.Draw ∷ Names.Frames ∷ Names.Compare ∷ []);
 }
 
 -- ---- what the code's table says

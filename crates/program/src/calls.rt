@@ -18,6 +18,7 @@ ghost use Rattle.script.specs.ScriptEnd.{IsEnding, whole_script};
 ghost use Rattle.wire_time.specs.Moment.{greatest_moment};
 
 use crate::bounds_call::bounds_given;
+use crate::compare_call::compare_given;
 use crate::end_forgotten;
 use crate::frames_call::frames_given;
 use crate::job_name::JobName;
@@ -192,6 +193,7 @@ fn answer_job<F: Files, B: Allocator, R: Read, W: Write + Drop, E: Errors, H: Wa
         (R.remaining reader.old) result.0 watch.old watch.new }
 {
     match name {
+        JobName::Compare => compare_given(files, alloc, matches, answers, errors, noted),
         JobName::Script => answer_given(alloc, matches, reader, answers, errors, watch),
         JobName::Replay => replay_given(
             files, alloc, matches, reader, answers, errors, watch, noted,

@@ -1,18 +1,18 @@
 //! The table of the frames of a script, which may have the streams of a table from a file, or run beside a capture from
 //! one.
 
-ghost use Rattle.std.specs.Prelude.{◌≡◌, IfErr, IfSome, Some, codes};
+ghost use Rattle.std.specs.Prelude.{◌≡◌, IfErr, IfOk, Some, codes};
 ghost use Rattle.text.specs.Buffered.{writer_contents};
 ghost use Rattle.clap.specs.Matches.{first_value, found_of};
 ghost use Rattle.capture.specs.declared.writer.TheConstants.{CAPTURE_END};
 ghost use Rattle.program.specs.Given.{IsGivenCapture, IsGivenFrames, IsGivenTable, frames_settings, settings_in};
-ghost use Rattle.program.specs.Reading.{format_in};
+ghost use Rattle.program.specs.Reading.{form_in};
 ghost use Rattle.program.specs.Strict.{IsWatchedBeside, IsWatchedByFiles, IsWatchedTable};
 ghost use Rattle.wire_time.specs.Moment.{greatest_moment};
 
-use crate::capture_input::{end_unformatted, format_given, turning};
+use crate::capture_input::{classic_reader, end_unformed, form_given};
 use crate::noted::Noted;
-use crate::options::{value_of, values_of};
+use crate::options::values_of;
 use crate::replay_call::{end_unopened, open};
 use capture::CAPTURE_END;
 use clap::ArgMatches;
@@ -23,7 +23,6 @@ use std::alloc::{Allocator, Global};
 use std::io::{Read, Write};
 use std::rt::Files;
 use text::octet_writer::BufWriter;
-use translated::Translated;
 use wire_time::MAX_MOMENT;
 
 /// Writes the table of the frames of a replay of the script that `reader` gives and of the capture in the file of this
@@ -41,10 +40,10 @@ fn frames_of_capture<F: Files, B: Allocator, R: Read, W: Write + Drop, E: Errors
     noted: &mut Noted,
 ) -> (Ended, W)
     ensures ending { IsGivenCapture (settings_in CAPTURE_END (found_of matches.now))
-        (format_in (first_value (found_of matches.now) (codes "format"))) path.now
+        (form_in (found_of matches.now)) path.now
         (R.remaining reader.old) result.0 (writer_contents W.contents answers) (W.contents result.1)
         (E.contents errors.old) (E.contents errors.new) }
-    ensures watched { IfSome (format_in (first_value (found_of matches.now) (codes "format")))
+    ensures watched { IfOk (form_in (found_of matches.now))
         (λ _. IsWatchedBeside H.alerted (settings_in CAPTURE_END (found_of matches.now))
         (R.remaining reader.old) result.0 watch.old watch.new) }
     ensures unread { IfErr (settings_in CAPTURE_END (found_of matches.now))
@@ -54,13 +53,14 @@ fn frames_of_capture<F: Files, B: Allocator, R: Read, W: Write + Drop, E: Errors
         Ok(settings) => settings,
         Err(value) => return end_with_value(value, answers, errors),
     };
-    let Some(format) = format_given(value_of(matches, "format")) else {
-        return end_unformatted(answers, errors);
+    let form = match form_given(matches) {
+        Ok(form) => form,
+        Err(bad) => return end_unformed(bad, answers, errors),
     };
     match open(files, path) {
         Ok(capture) => {
-            let mut turned = turning(format);
-            let capture = Translated::new(alloc, alloc, capture, &mut turned);
+            let mut turned = None;
+            let capture = classic_reader(alloc, capture, form, &mut turned);
             let ended =
                 answer_frames_of_capture(alloc, settings, capture, reader, answers, errors, watch);
             noted.take_capture(&turned);

@@ -17,6 +17,7 @@ ghost use Rattle.program.specs.Given.{memory_text};
 mod bounds_call;
 mod calls;
 mod capture_input;
+mod compare_call;
 mod devices;
 mod early;
 mod frames_call;

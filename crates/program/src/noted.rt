@@ -32,4 +32,13 @@ impl Noted {
             self.rounded = note.rounded;
         }
     }
+
+    /// What was met in two captures: the first fault of either.
+    pub(crate) fn take_captures(&mut self, one: &Option<AnyCapture>, two: &Option<AnyCapture>) {
+        self.take_capture(two);
+        let (block, rounded) = (self.block, self.rounded);
+        self.take_capture(one);
+        self.block = self.block.or(block);
+        self.rounded = self.rounded.saturating_add(rounded);
+    }
 }

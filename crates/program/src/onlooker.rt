@@ -234,7 +234,7 @@ impl<'a, 'b, C: Clock, P: Write + Drop, E: Write> Onlooker<'a, 'b, C, P, E> {
                 }
             }
             JobName::Streams | JobName::Bounds | JobName::Paths => {}
-            JobName::Plan | JobName::Draw => {}
+            JobName::Plan | JobName::Draw | JobName::Compare => {}
         }
     }
 

@@ -25,7 +25,7 @@ use traffic::StreamsWords;
 pub(crate) fn reads_input(words: &[String]) -> bool {
     let mut words = words.iter().skip(1).map(|word| word.as_str());
     let waits = match words.next() {
-        Some("replay" | "plan") => false,
+        Some("replay" | "plan" | "compare") => false,
         Some(name) => JOBS.iter().any(|job| job.name.text() == name),
         None => false,
     };
@@ -246,6 +246,46 @@ const FORMAT: Word = Word {
     name: "format",
     value: "FORMAT",
     help: "How the capture is written: pcap, pcapng, or auto, which looks at its first octets [default: pcap]",
+    without: None,
+};
+
+const FCS: Word = Word {
+    given: Given::Value,
+    name: "fcs",
+    value: "WORD",
+    help: "Whether the frames of the capture have their check sequence, 4 octets each: absent or present [default: absent]",
+    without: None,
+};
+
+const BY: Word = Word {
+    given: Given::Value,
+    name: "by",
+    value: "WORD",
+    help: "Which frames are compared: order, the n-th with the n-th; id, or payload [default: order]",
+    without: None,
+};
+
+const WITHIN: Word = Word {
+    given: Given::Value,
+    name: "within",
+    value: "TIME",
+    help: "End with status 1 where moments differ by more, such as 1us, a frame has no partner, or there is no pair",
+    without: None,
+};
+
+const FIRST: Word = Word {
+    given: Given::File,
+    name: "first",
+    value: "A",
+    help: "A file with a capture, or with a table as frames writes it",
+    without: None,
+};
+
+const SECOND: Word = Word {
+    given: Given::File,
+    name: "second",
+    value: "B",
+    help: "The file that it is compared with",
     without: None,
 };
 
@@ -594,7 +634,7 @@ const WIDTH: Word = Word {
     without: None,
 };
 
-pub(crate) const JOBS: [Job; 9] = [
+pub(crate) const JOBS: [Job; 10] = [
     Job {
         name: JobName::Script,
         about: "Answers the lines of a script on standard input",
@@ -622,6 +662,7 @@ pub(crate) const JOBS: [Job; 9] = [
             STAMP,
             SHIFT,
             FORMAT,
+            FCS,
             TOLERANT,
             OF_DEVICE,
             SUMMARY,
@@ -732,12 +773,18 @@ pub(crate) const JOBS: [Job; 9] = [
             UNTIL,
             CAPTURE_OF_FRAMES,
             FORMAT,
+            FCS,
             BY_STREAM,
             TOLERANT,
             OF_DEVICE,
             STRICT_COMMANDS,
             EXPLAIN,
         ],
+    },
+    Job {
+        name: JobName::Compare,
+        about: "Compares two captures, or two tables of frames, frame by frame",
+        words: &[BY, WITHIN, EXPLAIN, FIRST, SECOND],
     },
 ];
 

@@ -1,6 +1,6 @@
 //! A script and a capture from files through the port.
 
-ghost use Rattle.std.specs.Prelude.{◌≡◌, IfErr, IfOk, None, OnOk, Some, [], codes, option_map, true, unwrap_or};
+ghost use Rattle.std.specs.Prelude.{◌≡◌, IfErr, IfOk, None, OnOk, Some, [], codes, false, option_map, true, unwrap_or};
 ghost use Rattle.text.specs.Buffered.{writer_contents};
 ghost use Rattle.clap.specs.Matches.{first_value, found_of};
 ghost use Rattle.program.specs.Given.{memory_text, over_input_text, settings_in, timing_in};
@@ -13,7 +13,7 @@ ghost use Rattle.script.specs.ScriptEnd.{IsRefusal};
 ghost use Rattle.replay.specs.Texts.{open_text};
 ghost use Rattle.replay.specs.Timing.{timing_text};
 
-use crate::capture_input::{end_unformatted, format_given, turning};
+use crate::capture_input::{CaptureForm, classic_reader, end_unformed, form_given};
 use crate::noted::Noted;
 use crate::onlooker::FaultText;
 use crate::options::{is_given, value_of, values_of};
@@ -35,7 +35,6 @@ use std::fs;
 use std::io::{Read, Write};
 use std::rt::Files;
 use text::octet_writer::BufWriter;
-use translated::Translated;
 
 /// The path that is given for one of the files.
 fn path_of<'a>(matches: &ArgMatches<'a>, name: &str) -> &'a str
@@ -284,20 +283,35 @@ fn replay_files<
 /// How the inputs of a replay are read.
 #[derive(Clone, Copy)]
 struct Reading<'a> {
-    /// The format of the capture.
-    format: CaptureFormat,
+    /// How the capture is written.
+    form: CaptureForm,
     /// Whether the lines of the script are read as they are pasted.
     tolerant: bool,
     /// The device whose lines of the script are read, where one is named.
     device: Option<&'a str>,
 }
 
+/// Whether a capture is a classic one without check sequences.
+fn is_classic(form: CaptureForm) -> bool
+    ensures format { result ≡ true → form.format ≡ CaptureFormat.Pcap }
+    ensures fcs { result ≡ true → form.has_fcs ≡ false }
+{
+    if form.has_fcs {
+        return false;
+    }
+    match form.format {
+        CaptureFormat::Pcap => true,
+        _ => false,
+    }
+}
+
 impl Reading<'_> {
     /// Whether both are read as they stand.
     fn is_plain(&self) -> bool
-        ensures { result ≡ true → self.now.format ≡ CaptureFormat.Pcap }
+        ensures format { result ≡ true → self.now.form.format ≡ CaptureFormat.Pcap }
+        ensures fcs { result ≡ true → self.now.form.has_fcs ≡ false }
     {
-        !self.tolerant && self.device.is_none() && matches!(self.format, CaptureFormat::Pcap)
+        !self.tolerant && self.device.is_none() && is_classic(self.form)
     }
 }
 
@@ -322,7 +336,7 @@ fn replay_as<
     watch: &mut P,
     noted: &mut Noted,
 ) -> (Ended, W)
-    ensures { IsReplayed settings timing (read_as reading.entry.format (S.remaining inputs.capture))
+    ensures { IsReplayed settings timing (read_as reading.entry.form (S.remaining inputs.capture))
         result.0 (writer_contents W.contents report) (W.contents result.1) (E.contents errors.old)
         (E.contents errors.new) }
 {
@@ -334,8 +348,8 @@ fn replay_as<
     let Inputs { script, capture } = inputs;
     let passed = &mut noted.passed;
     let script = plain_reader(alloc, script, reading.tolerant, reading.device, passed);
-    let mut turned = turning(reading.format);
-    let capture = Translated::new(alloc, alloc, capture, &mut turned);
+    let mut turned = None;
+    let capture = classic_reader(alloc, capture, reading.form, &mut turned);
     let inputs = Inputs { script, capture };
     let ended = replay_files(
         alloc, settings, timing, inputs, report, departures, errors, watch,
@@ -364,7 +378,7 @@ fn replay_opened<
     watch: &mut P,
     noted: &mut Noted,
 ) -> (Ended, W)
-    ensures { IsReplayedOrForgotten settings timing reading.entry.format (option_map T.remaining opened.capture)
+    ensures { IsReplayedOrForgotten settings timing reading.entry.form (option_map T.remaining opened.capture)
         (R.remaining reader.old) result.0 (writer_contents W.contents answers) (W.contents result.1)
         (E.contents errors.old) (E.contents errors.new) }
 {
@@ -430,11 +444,12 @@ pub fn replay_given<F: Files, B: Allocator, R: Read, W: Write + Drop, E: Errors,
         Ok(timing) => timing,
         Err(bad) => return end_untimed(bad, answers, errors),
     };
-    let Some(format) = format_given(value_of(matches, "format")) else {
-        return end_unformatted(answers, errors);
+    let form = match form_given(matches) {
+        Ok(form) => form,
+        Err(bad) => return end_unformed(bad, answers, errors),
     };
     let reading = Reading {
-        format,
+        form,
         tolerant: is_given(matches, "tolerant"),
         device: value_of(matches, "device"),
     };
