@@ -4,6 +4,7 @@ pub mod FieldLaws
 pub mod FrontLaws
 pub mod InputLaws
 pub mod JobLaws
+pub mod KeyLaws
 pub mod PayloadLaws
 pub mod PlaceLaws
 pub mod PutLaws

@@ -2,6 +2,7 @@ pub mod CompareEnd
 pub mod Faults
 pub mod Fields
 pub mod Frames
+pub mod Law
 pub mod Lines
 pub mod Outcome
 pub mod Pairs

@@ -2,7 +2,7 @@
 //!
 //! What a frame of an input is stands in specs/Frames.antt, which frames are compared with each other in specs/Pairs.antt,
 //! and the text in specs/Lines.antt; the contract of `answer_compare` cites them by specs/Outcome.antt and
-//! specs/CompareEnd.antt.
+//! specs/CompareEnd.antt. The law of `laws` says what the keys of octets are worth.
 #![tactic(auto)]
 
 mod compare_job;
@@ -11,6 +11,7 @@ mod faults;
 mod fields;
 mod frame;
 mod input;
+pub mod laws;
 mod lines;
 mod pairs;
 mod payloads;
