@@ -14,7 +14,8 @@ use abstract_port::{Event, Start};
 use job::next_line;
 use port_text::answer_text::WriteFault;
 use script::{
-    BadLine, Failure, RunFault, RunningPort, Said, Settings, Watch, read_line, read_tc, tell_command,
+    BadLine, Failure, RunFault, RunningPort, Said, Settings, Watch, read_line, read_tc,
+    tell_command,
 };
 use std::alloc::Allocator;
 use std::io::{Read, Write};

@@ -35,8 +35,10 @@ fn help_of(kind: BlockKind) -> &'static [u8] {
         BlockKind::LongRecord => b"    a packet has at most 262144 octets, and its block 524288\n",
         BlockKind::BadVersion => b"    the version of a section is 1\n",
         BlockKind::TooManyInterfaces => b"    a section has at most 256 interfaces\n",
-        BlockKind::BadOption => b"    an option of the interface goes past its block, or has a wrong length\n",
-        BlockKind::NoInterface => b"    the packet names an interface that its section has not described\n",
+        BlockKind::BadOption =>
+            b"    an option of the interface goes past its block, or has a wrong length\n",
+        BlockKind::NoInterface =>
+            b"    the packet names an interface that its section has not described\n",
         BlockKind::BadLink(_) =>
             b"    packets are of Ethernet, link type 1: capture at an Ethernet interface, or filter by interface\n",
         BlockKind::BadCaptured => b"    the packet says more octets than its block has\n",

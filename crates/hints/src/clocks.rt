@@ -38,11 +38,7 @@ fn reason(early: &Early) -> &'static [u8] {
 
 /// Writes how many frames came before the schedule was in force, and, where that is wanted, what probably stands behind
 /// it.
-pub fn put_early<W: Write>(
-    writer: &mut W,
-    early: &Early,
-    explain: bool,
-) -> Result<(), WriteFault> {
+pub fn put_early<W: Write>(writer: &mut W, early: &Early, explain: bool) -> Result<(), WriteFault> {
     let noun: &[u8] = if early.count == 1 {
         b" frame came before the schedule is in force: the first at "
     } else {

@@ -100,8 +100,7 @@ fn value_text(kind: ValueKind) -> &'static [u8] {
         ValueKind::Format => b"--format is pcap, pcapng or auto",
         ValueKind::Fcs => b"--fcs is absent or present",
         ValueKind::By => b"--by is order, id or payload",
-        ValueKind::Within =>
-            b"--within is picoseconds, or a number with its unit such as 1us",
+        ValueKind::Within => b"--within is picoseconds, or a number with its unit such as 1us",
     }
 }
 

@@ -26,7 +26,9 @@ fn has_tc(line: &[u8]) -> bool {
 /// What helps with a line that has something before its `tc`.
 pub(crate) fn pasted_front(line: &[u8], first: &[u8]) -> Option<&'static [u8]> {
     if first.starts_with(BYTE_ORDER_MARK) {
-        return Some(b"the file begins with a byte order mark (UTF-8): save it without, or give --tolerant");
+        return Some(
+            b"the file begins with a byte order mark (UTF-8): save it without, or give --tolerant",
+        );
     }
     if has_tc(line) {
         return Some(
@@ -40,7 +42,9 @@ pub(crate) fn pasted_front(line: &[u8], first: &[u8]) -> Option<&'static [u8]> {
 pub(crate) fn pasted_word(word: &[u8]) -> Option<&'static [u8]> {
     match word {
         [b'$', ..] => Some(b"a variable of a shell: write its value"),
-        [b'\'' | b'"', ..] => Some(b"quotation marks of a shell: leave them out, or give --tolerant"),
+        [b'\'' | b'"', ..] => Some(
+            b"quotation marks of a shell: leave them out, or give --tolerant",
+        ),
         b"\\" => Some(
             b"blanks behind a backslash, which joins two lines only as the last character: --tolerant drops them",
         ),

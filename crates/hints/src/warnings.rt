@@ -115,7 +115,9 @@ pub fn put_devices<W: Write>(
             Part::Number(u128::from(earlier.0)),
             Part::Text(b" of "),
             Part::Text(earlier.1),
-            Part::Text(b"\n    one port answers all lines: --device NAME takes those of one device\n"),
+            Part::Text(
+                b"\n    one port answers all lines: --device NAME takes those of one device\n",
+            ),
         ],
     )
 }

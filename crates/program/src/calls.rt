@@ -24,9 +24,7 @@ use crate::frames_call::frames_given;
 use crate::job_name::JobName;
 use crate::noted::Noted;
 use crate::onlooker::{FaultText, Onlooker};
-use crate::options::{
-    JOBS, checks_of, command, draws_of, is_given, looks_of, value_of, values_of,
-};
+use crate::options::{JOBS, checks_of, command, draws_of, is_given, looks_of, value_of, values_of};
 use crate::paths_call::paths_given;
 use crate::piped::Piped;
 use crate::plain_input::{PassedOver, asks_lines, plain_reader, reads_commands};

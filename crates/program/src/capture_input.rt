@@ -38,8 +38,10 @@ pub(crate) enum BadForm {
 }
 
 /// A reader of a capture in any form, which gives a classic one without check sequences.
-pub(crate) type ClassicReader<'n, R> =
-    Translated<Translated<R, &'n mut Option<AnyCapture>>, Option<WithoutFcs>>;
+pub(crate) type ClassicReader<'n, R> = Translated<
+    Translated<R, &'n mut Option<AnyCapture>>,
+    Option<WithoutFcs>,
+>;
 
 /// The format that a word names; that of classic captures, where there is none.
 fn format_given(word: Option<&str>) -> Option<CaptureFormat>

@@ -61,8 +61,9 @@ fn frames_of_capture<F: Files, B: Allocator, R: Read, W: Write + Drop, E: Errors
         Ok(capture) => {
             let mut turned = None;
             let capture = classic_reader(alloc, capture, form, &mut turned);
-            let ended =
-                answer_frames_of_capture(alloc, settings, capture, reader, answers, errors, watch);
+            let ended = answer_frames_of_capture(
+                alloc, settings, capture, reader, answers, errors, watch,
+            );
             noted.take_capture(&turned);
             ended
         }

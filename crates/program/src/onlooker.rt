@@ -10,9 +10,10 @@ use crate::stream_ids::{StreamIds, ids_of};
 use abstract_port::{Change, Command, Dropped};
 use arrayvec::ArrayVec;
 use hints::{
-    put_basis, put_block_fault, put_busy_class, put_comment, put_devices, put_early, put_end_without, put_failure,
-    put_fault_hint, put_frame_dropped, put_frames_left, put_linux, put_missed, put_no_command,
-    put_no_frame, put_none_judged, put_open_port, put_others, put_passed, put_rounded, put_shared_ids,
+    put_basis, put_block_fault, put_busy_class, put_comment, put_devices, put_early,
+    put_end_without, put_failure, put_fault_hint, put_frame_dropped, put_frames_left, put_linux,
+    put_missed, put_no_command, put_no_frame, put_none_judged, put_open_port, put_others,
+    put_passed, put_rounded, put_shared_ids,
 };
 use job::{CaptureKind, Ended, Errors, FaultKind};
 use pcapng::BlockFault;

@@ -709,7 +709,8 @@ pub(crate) const JOBS: [Job; 10] = [
         name: JobName::Bounds,
         about: "Reports how long the frames of the streams in a table can ever wait, by the schedule commands on standard input",
         words: &[
-            RATE, MTU, ROOM, MAP, FRAMES, SILENT, LEFTOVERS, SLACK, WHY, TOLERANT, OF_DEVICE, STRICT, EXPLAIN, TABLE,
+            RATE, MTU, ROOM, MAP, FRAMES, SILENT, LEFTOVERS, SLACK, WHY, TOLERANT, OF_DEVICE,
+            STRICT, EXPLAIN, TABLE,
         ],
     },
     Job {

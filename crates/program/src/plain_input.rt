@@ -34,8 +34,10 @@ impl PassedOver {
 }
 
 /// A reader of lines as the words ask for them.
-pub(crate) type PlainReader<'n, R> =
-    Translated<Translated<R, Option<Lines<Tolerant<'n>>>>, Option<Lines<OfDevice<'n>>>>;
+pub(crate) type PlainReader<'n, R> = Translated<
+    Translated<R, Option<Lines<Tolerant<'n>>>>,
+    Option<Lines<OfDevice<'n>>>,
+>;
 
 /// Whether the standard input of a job has lines with schedule commands.
 pub(crate) fn reads_commands(name: JobName) -> bool
@@ -95,5 +97,10 @@ pub(crate) fn plain_reader<'n, R: Read>(
 {
     let pasted = tolerant_lines(tolerant, &mut passed.pasted);
     let plain = Translated::new(alloc, alloc, reader, pasted);
-    Translated::new(alloc, alloc, plain, device_lines(device, &mut passed.others))
+    Translated::new(
+        alloc,
+        alloc,
+        plain,
+        device_lines(device, &mut passed.others),
+    )
 }
