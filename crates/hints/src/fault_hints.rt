@@ -16,6 +16,17 @@ fn line_hint(kind: LineKind, line: &[u8]) -> Option<Hint> {
             b"an input has at most 4000000 lines; where streams writes one, each frame takes a line, and each moment another",
         ),
         LineKind::NoLink | LineKind::NoWay => Hint::plain(network_text(kind)),
+        LineKind::NoColumn => Hint::plain(
+            b"a file that begins as no capture is a table, whose first line names the columns id and start_ps",
+        ),
+        LineKind::FieldCount => {
+            Hint::plain(
+                b"each line has as many fields, with commas between, as the first one names",
+            )
+        }
+        LineKind::NoPayload => {
+            Hint::plain(b"a table of frames has no octets: --by payload compares captures")
+        }
         _ if line.is_empty() => return None,
         LineKind::UnknownLine => unknown_line(line, false),
         LineKind::UnknownTableLine => unknown_line(line, true),
@@ -123,6 +134,8 @@ fn capture_text(kind: CaptureKind) -> &'static [u8] {
             b"a capture has at most 4000000 records: editcap -c 4000000 IN OUT splits it",
         CaptureKind::BadShift =>
             b"with --shift each record comes at moment 0 or later, and at 4294967296000000000000 ps at most",
+        CaptureKind::NoId =>
+            b"a frame carries an ID where streams --capture made it; --by payload or --by order compares others",
     }
 }
 
