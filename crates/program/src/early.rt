@@ -2,12 +2,16 @@
 
 use hints::Early;
 
+/// A second, in picoseconds.
+const SECOND: u128 = 1_000_000_000_000;
+
 /// What is seen of the frames that come before the first command is in force, with moments in picoseconds.
 #[derive(Clone, Copy, Debug)]
 pub(crate) struct Openness {
     count: u64,
     first: u128,
     change: Option<u128>,
+    is_met: bool,
 }
 
 impl Openness {
@@ -17,6 +21,7 @@ impl Openness {
             count: 0,
             first: 0,
             change: None,
+            is_met: false,
         }
     }
 
@@ -24,6 +29,7 @@ impl Openness {
     #[inline(always)]
     pub fn come(&mut self, moment: u128) {
         if moment >= self.change.unwrap_or(u128::MAX) {
+            self.is_met = true;
             return;
         }
         if self.count == 0 {
@@ -48,5 +54,14 @@ impl Openness {
             first: self.first,
             change,
         })
+    }
+
+    /// Whether the run says nothing of the schedule: no frame came once it was in force, or the clocks differ by a second
+    /// and more, so that they count from different moments.
+    pub fn is_of_no_use(&self) -> bool {
+        match self.early() {
+            Some(early) => !self.is_met || early.change.saturating_sub(early.first) >= SECOND,
+            None => false,
+        }
     }
 }

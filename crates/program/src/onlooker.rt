@@ -264,7 +264,8 @@ impl<'a, 'b, C: Clock, P: Write + Drop, E: Write> Onlooker<'a, 'b, C, P, E> {
         let _ = self.errors.flush();
     }
 
-    /// Warns of frames that came before the first command was in force, where that is wanted. It may be a finding.
+    /// Warns of frames that came before the first command was in force, where that is wanted. It is a finding where that
+    /// counts, and the run says nothing of the schedule.
     fn warn_of_early(&mut self, counts: bool)
         ensures kept { self.old.found ≡ true → self.new.found ≡ true }
         ensures same { counts ≡ false → self.new.found ≡ self.old.found }
@@ -272,10 +273,11 @@ impl<'a, 'b, C: Clock, P: Write + Drop, E: Write> Onlooker<'a, 'b, C, P, E> {
         let Some(early) = self.openness.early() else {
             return;
         };
-        if !self.looks.explain && !(self.looks.strict && counts) {
+        let found = counts && self.openness.is_of_no_use();
+        if !self.looks.explain && !(self.looks.strict && found) {
             return;
         }
-        self.found |= counts;
+        self.found |= found;
         let _ = put_early(self.errors, &early, self.looks.explain);
         let _ = self.errors.flush();
     }
