@@ -19,7 +19,7 @@ UNMET = {"BadShift", "OUT is one of the inputs", "cannot open", "read failed", "
     f"bad value of --{name}"
     for name in ("map", "frame", "stamp", "shift", "width", "device", "next", "format", "fcs", "by", "within")}
 # What a strict run finds, and is no fault: it ends no run.
-FINDINGS = {"frame", "class", "paths", "paths: stream", "paths: no schedule was judged", "paths: no stream is in the network"}
+FINDINGS = {"compare: pair", "compare: missing", "compare: extra", "compare: no pair", "frame", "class", "paths", "paths: stream", "paths: no schedule was judged", "paths: no stream is in the network"}
 # A limit whose text says all.
 LIMITS = {"paths: there are more than 65536 ports"}
 # What needs no further words there.

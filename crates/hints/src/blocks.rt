@@ -78,9 +78,9 @@ pub fn put_rounded<W: Write>(writer: &mut W, rounded: u64) -> Result<(), WriteFa
     put_parts(
         writer,
         &[
-            Part::Text(b"taprio_port: warning: the moments of "),
+            Part::Text(b"taprio_port: warning: moments rounded down to whole nanoseconds: "),
             Part::Number(u128::from(rounded)),
-            Part::Text(b" packets are rounded down to whole nanoseconds\n"),
+            Part::Text(b"\n"),
         ],
     )
 }

@@ -39,17 +39,12 @@ fn reason(early: &Early) -> &'static [u8] {
 /// Writes how many frames came before the schedule was in force, and, where that is wanted, what probably stands behind
 /// it.
 pub fn put_early<W: Write>(writer: &mut W, early: &Early, explain: bool) -> Result<(), WriteFault> {
-    let noun: &[u8] = if early.count == 1 {
-        b" frame came before the schedule is in force: the first at "
-    } else {
-        b" frames came before the schedule is in force: the first at "
-    };
     put_parts(
         writer,
         &[
-            Part::Text(b"taprio_port: warning: "),
+            Part::Text(b"taprio_port: warning: frames came before the schedule is in force: "),
             Part::Number(u128::from(early.count)),
-            Part::Text(noun),
+            Part::Text(b", the first at "),
             Part::Number(early.first),
             Part::Text(b", and it is in force from "),
             Part::Number(early.change),

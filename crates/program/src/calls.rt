@@ -224,7 +224,7 @@ fn report_fault<F: Files, C: Clock, P: Write + Drop, E: Write>(
         return;
     }
     if let Some(block) = &noted.block {
-        onlooker.report_block(text, block);
+        onlooker.report_block(text, block, noted.is_of_two);
         return;
     }
     let capture = first_octets(files, matches, text);

@@ -8,6 +8,8 @@ use pcapng::{AnyCapture, BlockFault};
 pub struct Noted {
     /// The block of a capture in pcapng that can't be read, if there is one.
     pub(crate) block: Option<BlockFault>,
+    /// Whether two captures are read.
+    pub(crate) is_of_two: bool,
     /// How many packets came at a moment that is no whole number of nanoseconds.
     pub(crate) rounded: u64,
     /// What was passed over in the lines of a script.
@@ -19,6 +21,7 @@ impl Noted {
     pub fn nothing() -> Noted {
         Noted {
             block: None,
+            is_of_two: false,
             rounded: 0,
             passed: PassedOver::none(),
         }
@@ -35,6 +38,7 @@ impl Noted {
 
     /// What was met in two captures: the first fault of either.
     pub(crate) fn take_captures(&mut self, one: &Option<AnyCapture>, two: &Option<AnyCapture>) {
+        self.is_of_two = true;
         self.take_capture(two);
         let (block, rounded) = (self.block, self.rounded);
         self.take_capture(one);

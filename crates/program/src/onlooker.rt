@@ -367,11 +367,11 @@ impl<'a, 'b, C: Clock, P: Write + Drop, E: Write> Onlooker<'a, 'b, C, P, E> {
 
     /// Reports a fault that is one of this block of a capture in pcapng, and what helps with it, where that is wanted. The
     /// text of the fault stands before it where it says which of two captures it is.
-    pub fn report_block(&mut self, fault: &FaultText, block: &BlockFault)
+    pub fn report_block(&mut self, fault: &FaultText, block: &BlockFault, is_of_two: bool)
         ensures { self.new.found ≡ self.old.found }
     {
         let is_of_block = fault.kind == Some(FaultKind::Capture(CaptureKind::ShortRecord));
-        if !is_of_block || !fault.text.as_slice().starts_with(b"taprio_port: capture") {
+        if is_of_two || !is_of_block {
             let _ = put(self.errors, fault.text.as_slice());
         }
         if is_of_block {
