@@ -1,24 +1,22 @@
 -- The lines that a job reads: as they stand, as they are plainly meant where they were pasted, or those of one device.
-use Rattle.std.specs.Prelude.{ℕ, List, [], Bool, true, false, ◌&&◌, ◌||◌, Option, Some, None, codes, option_map, if◌then◌else◌}
+use Rattle.std.specs.Prelude.{ℕ, List, Bool, true, false, ◌&&◌, ◌||◌, Option, Some, None, codes, option_map, if◌then◌else◌}
 use Rattle.std.specs.Option.{option_map_or}
 use Rattle.clap.specs.Matches.{first_value}
 use Rattle.clap.specs.declared.parser.matches.Found.{Found}
-use Rattle.pasted.specs.Device.{device_rule}
-use Rattle.pasted.specs.Lines.{each_line}
-use Rattle.pasted.specs.Plain.{plain_rule}
-use Rattle.pasted.specs.declared.place.Place.TheVariants.{First}
+use Rattle.pasted.specs.Device.{lines_of_device}
+use Rattle.pasted.specs.Plain.{plain_lines}
 use Rattle.program.specs.Given.{flag_in}
 use Rattle.program.specs.declared.job_name.JobName.{JobName}
 use Rattle.program.specs.declared.job_name.JobName.TheVariants as Names
 
 -- lines as they are pasted, where that is asked
 abbrev pub plain_in : Bool → List ℕ → List ℕ
-plain_in tolerant octets = if tolerant then each_line plain_rule First [] octets else octets
+plain_in tolerant octets = if tolerant then plain_lines octets else octets
 
 -- the lines of one device, where one is named
 abbrev pub of_device : Option (List ℕ) → List ℕ → List ℕ
 of_device None octets = octets
-of_device (Some name) octets = each_line (device_rule name) First [] octets
+of_device (Some name) octets = lines_of_device name octets
 
 -- both, as the words ask
 abbrev pub lines_in : Found → List ℕ → List ℕ
