@@ -5,10 +5,10 @@ use port_text::answer_text::{Part, WriteFault, put_parts};
 use std::io::Write;
 
 /// Writes what was passed over, and where first, if it was.
-fn put_kind<W: Write>(
+fn put_kind<'a, W: Write>(
     writer: &mut W,
-    what: &[u8],
-    name: &[u8],
+    what: &'a [u8],
+    name: &'a [u8],
     passed: Passed,
 ) -> Result<(), WriteFault> {
     if passed.lines == 0 {

@@ -99,10 +99,10 @@ pub fn put_comment<W: Write>(writer: &mut W, number: u32, line: &[u8]) -> Result
 }
 
 /// Writes that the commands of two lines, with these numbers, are of two devices: one port answers both.
-pub fn put_devices<W: Write>(
+pub fn put_devices<'a, W: Write>(
     writer: &mut W,
-    earlier: (u32, &[u8]),
-    later: (u32, &[u8]),
+    earlier: (u32, &'a [u8]),
+    later: (u32, &'a [u8]),
 ) -> Result<(), WriteFault> {
     put_parts(
         writer,

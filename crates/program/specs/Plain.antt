@@ -36,6 +36,14 @@ reads_commands Names.Draw = true
 reads_commands Names.Frames = true
 reads_commands job = false
 
+-- whether a job reads other lines of its standard input than those that stand there
+abbrev pub changes_lines : JobName → Found → Bool
+changes_lines job found = reads_commands job && asks_lines found
+
+abbrev pub input_by : Bool → Found → Option (List ℕ) → Option (List ℕ)
+input_by true found input = option_map (lines_in found) input
+input_by false found input = input
+
 -- what a job reads of its standard input
 abbrev pub input_of : JobName → Found → Option (List ℕ) → Option (List ℕ)
-input_of job found input = if reads_commands job && asks_lines found then option_map (lines_in found) input else input
+input_of job found input = input_by (changes_lines job found) found input

@@ -1,6 +1,6 @@
 //! What is answered to the words of the program.
 
-ghost use Rattle.std.specs.Prelude.{◌≡◌, [], IfErr, IfSome, map, string_bytes, true};
+ghost use Rattle.std.specs.Prelude.{◌≡◌, [], IfErr, IfSome, map, option_map, string_bytes, true};
 ghost use Rattle.text.specs.Buffered.{writer_buffer, writer_contents};
 ghost use Rattle.clap.specs.Values.{kind_of};
 ghost use Rattle.clap.specs.Matches.{found_of, subcommand_name_of};
@@ -10,7 +10,7 @@ ghost use Rattle.schedule_check.specs.Alerts as Checks;
 ghost use Rattle.schedule_check.specs.Checked.{whole_check};
 ghost use Rattle.schedule_check.specs.Windows.{IsTeller, Teller};
 ghost use Rattle.drawing.specs.PictureEnd.{IsDrawEnding};
-ghost use Rattle.program.specs.Plain.{input_of};
+ghost use Rattle.program.specs.Plain.{input_of, lines_in};
 ghost use Rattle.program.specs.Table.{name_of};
 ghost use Rattle.program.specs.Given.{checks_in, draws_in, settings_in};
 ghost use Rattle.script.specs.Alerts as Scripts;
@@ -27,7 +27,7 @@ use crate::onlooker::{FaultText, Onlooker};
 use crate::options::{JOBS, checks_of, command, draws_of, is_given, looks_of, value_of, values_of};
 use crate::paths_call::paths_given;
 use crate::piped::Piped;
-use crate::plain_input::{PassedOver, asks_lines, plain_reader, reads_commands};
+use crate::plain_input::{PassedOver, changes_lines, plain_reader};
 use crate::plan_call::plan_for;
 use crate::progress::Progress;
 use crate::replay_call::{first_octets, replay_given};
@@ -295,7 +295,44 @@ fn put_passed_over<E: Write>(errors: &mut E, passed: &PassedOver) {
     let _ = errors.flush();
 }
 
-/// Answers a job on the lines of the standard input that the words ask for, and reports what was passed over.
+/// Answers a job on the lines that the words ask for, in place of those of the standard input, and reports what was
+/// passed over.
+fn answer_plain<
+    F: Files,
+    B: Allocator,
+    R: Read,
+    W: Write + Drop,
+    E: Write,
+    C: Clock,
+    P: Write + Drop,
+>(
+    files: &F,
+    alloc: Global,
+    name: JobName,
+    matches: &ArgMatches<'_>,
+    reader: &mut R,
+    answers: BufWriter<Piped<W>, B>,
+    errors: &mut E,
+    progress: &mut Progress<'_, C, P>,
+    terminal: bool,
+) -> (Ended, Piped<W>)
+    ensures { IsWatchedEnding name (found_of matches.now)
+        (option_map (lines_in (found_of matches.now)) (R.remaining reader.old)) result.0
+        (writer_contents (⟦<Piped<W> as Write>⟧.contents) answers)
+        ((⟦<Piped<W> as Write>⟧.contents) result.1) }
+{
+    let mut passed = PassedOver::none();
+    let tolerant = is_given(matches, "tolerant");
+    let device = value_of(matches, "device");
+    let mut lines = plain_reader(alloc, reader, tolerant, device, &mut passed);
+    let ended = answer_watched(
+        files, alloc, name, matches, &mut lines, answers, errors, progress, terminal,
+    );
+    put_passed_over(errors, &passed);
+    ended
+}
+
+/// Answers a job on the lines of the standard input, as the words ask for them.
 fn answer_lines<
     F: Files,
     B: Allocator,
@@ -320,20 +357,14 @@ fn answer_lines<
         (writer_contents (⟦<Piped<W> as Write>⟧.contents) answers)
         ((⟦<Piped<W> as Write>⟧.contents) result.1) }
 {
-    if !reads_commands(name) || !asks_lines(matches) {
-        return answer_watched(
+    if changes_lines(name, matches) {
+        return answer_plain(
             files, alloc, name, matches, reader, answers, errors, progress, terminal,
         );
     }
-    let mut passed = PassedOver::none();
-    let tolerant = is_given(matches, "tolerant");
-    let device = value_of(matches, "device");
-    let mut lines = plain_reader(alloc, reader, tolerant, device, &mut passed);
-    let ended = answer_watched(
-        files, alloc, name, matches, &mut lines, answers, errors, progress, terminal,
-    );
-    put_passed_over(errors, &passed);
-    ended
+    answer_watched(
+        files, alloc, name, matches, reader, answers, errors, progress, terminal,
+    )
 }
 
 /// The job that the words name, and what they give it.

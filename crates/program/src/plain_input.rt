@@ -4,7 +4,7 @@ ghost use Rattle.std.specs.Prelude.{◌≡◌, ℕ, List, option_map};
 ghost use Rattle.clap.specs.Matches.{found_of};
 ghost use Rattle.script.specs.Given.{octets_of};
 ghost use Rattle.translated.specs.Outlook.{meaning_where};
-ghost use Rattle.program.specs.Plain.{asks_lines, of_device, plain_in, reads_commands};
+ghost use Rattle.program.specs.Plain.{asks_lines, changes_lines, of_device, plain_in, reads_commands};
 
 use crate::job_name::JobName;
 use crate::options::{is_given, value_of};
@@ -40,7 +40,7 @@ pub(crate) type PlainReader<'n, R> = Translated<
 >;
 
 /// Whether the standard input of a job has lines with schedule commands.
-pub(crate) fn reads_commands(name: JobName) -> bool
+fn reads_commands(name: JobName) -> bool
     ensures { result ≡ reads_commands name }
 {
     match name {
@@ -51,10 +51,17 @@ pub(crate) fn reads_commands(name: JobName) -> bool
 }
 
 /// Whether the words ask for other lines than those that stand there.
-pub(crate) fn asks_lines(matches: &ArgMatches<'_>) -> bool
+fn asks_lines(matches: &ArgMatches<'_>) -> bool
     ensures { result ≡ asks_lines (found_of matches.now) }
 {
     is_given(matches, "tolerant") || value_of(matches, "device").is_some()
+}
+
+/// Whether a job reads other lines of its standard input than those that stand there.
+pub(crate) fn changes_lines(name: JobName, matches: &ArgMatches<'_>) -> bool
+    ensures { result ≡ changes_lines name (found_of matches.now) }
+{
+    reads_commands(name) && asks_lines(matches)
 }
 
 /// Lines as they are pasted, where that is asked; what is passed over is noted.
