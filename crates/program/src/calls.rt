@@ -333,7 +333,7 @@ fn answer_plain<
 }
 
 /// Answers a job on the lines of the standard input, as the words ask for them.
-fn answer_lines<
+fn answer_asked<
     F: Files,
     B: Allocator,
     R: Read,
@@ -415,7 +415,7 @@ pub(crate) fn answer_words<
         Err(error) => return answer_refusal(alloc, &error, answers, errors),
     };
     match job_of(&matches) {
-        Some((name, given)) => answer_lines(
+        Some((name, given)) => answer_asked(
             files, alloc, name, given, reader, answers, errors, progress, terminal,
         ),
         // (the parser refuses words without a job)

@@ -4,7 +4,7 @@ use Rattle.text.specs.Buffered.{writer_contents}
 use Rattle.program.specs.Jobs.{IsWatchedEnding}
 use Rattle.program.specs.Plain.{input_by}
 use Rattle.program.specs.declared.piped.Piped.{Piped}
-use Rattle.program.proofs.calls.answer_lines.Goals as goal
+use Rattle.program.proofs.calls.answer_asked.Goals as goal
 
 pub returns-then-changes_lines : goal.returns-then-changes_lines
 returns-then-changes_lines g c =
