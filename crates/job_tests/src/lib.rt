@@ -8,7 +8,6 @@ pub mod capture_tests;
 #[cfg(test)]
 mod checks;
 #[cfg(test)]
-mod comparisons;
 #[cfg(test)]
 mod failures;
 #[cfg(test)]

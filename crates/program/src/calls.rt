@@ -328,6 +328,7 @@ fn answer_plain<
     let ended = answer_watched(
         files, alloc, name, matches, &mut lines, answers, errors, progress, terminal,
     );
+    drop(lines);
     put_passed_over(errors, &passed);
     ended
 }

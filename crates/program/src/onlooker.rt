@@ -218,8 +218,9 @@ impl<'a, 'b, C: Clock, P: Write + Drop, E: Write> Onlooker<'a, 'b, C, P, E> {
         }
         match name {
             JobName::Script => {
+                let counts = self.looks.frames;
                 self.warn_of_no_frame();
-                self.warn_of_early(self.looks.frames);
+                self.warn_of_early(counts);
             }
             JobName::Replay => {
                 self.warn_of_no_frame();
