@@ -1,5 +1,5 @@
-mod RunLaws
-mod QuoteLaws
 mod DeviceLaws
-mod PlainLaws
 mod FeedCounts
+mod PlainLaws
+mod QuoteLaws
+mod RunLaws

@@ -4,7 +4,8 @@ use Rattle.std.specs.List.{filter}
 use Rattle.std.specs.Str.{bytes_eq}
 use Rattle.text.specs.Numbers.{behind_first}
 use Rattle.text.specs.Words.{words_of}
-use Rattle.pasted.specs.Lines.{Rule}
+use Rattle.pasted.specs.Lines.{Rule, each_line}
+use Rattle.pasted.specs.declared.place.Place.TheVariants.{First}
 
 -- whether another word belongs to a word: that of a parent, or of a handle
 abbrev pub takes_word : List ℕ → Bool
@@ -52,3 +53,7 @@ device_line name line = if is_of_other name line then line_feeds line else line
 -- each line, with those that it joins, by itself
 abbrev pub device_rule : List ℕ → Rule
 device_rule name = record { is_whole = true; turned = λ place line. device_line name line; next = λ place line. place }
+
+-- the lines of an input, of which those of other devices are empty
+abbrev pub lines_of_device : List ℕ → List ℕ → List ℕ
+lines_of_device name octets = each_line (device_rule name) First [] octets

@@ -1,9 +1,9 @@
 -- Laws of the translations.
 use Rattle.std.specs.Prelude.{◌≡◌, ◌==◌, ◌&&◌, ◌||◌, not, Bool, true, List, ℕ, [], ◌∷◌, ◌++◌, if◌then◌else◌}
 use Rattle.std.specs.List.{count_by}
-use Rattle.pasted.specs.Lines.{each_line, is_long, next_place}
-use Rattle.pasted.specs.Device.{device_rule}
-use Rattle.pasted.specs.Plain.{plain_rule}
+use Rattle.pasted.specs.Lines.{is_long, next_place}
+use Rattle.pasted.specs.Device.{lines_of_device}
+use Rattle.pasted.specs.Plain.{plain_lines, plain_rule}
 use Rattle.pasted.specs.Notes.{marks}
 use Rattle.pasted.specs.declared.place.Place.{Place}
 use Rattle.pasted.specs.declared.place.Place.TheVariants.{First}
@@ -25,7 +25,7 @@ are_plain place line (b ∷ bs) =
 
 -- Octets in whose lines nothing is passed over come out as they are.
 abbrev pub PlainLaw : Type 0
-PlainLaw = (octets : List ℕ) → are_plain First [] octets ≡ true → each_line plain_rule First [] octets ≡ octets
+PlainLaw = (octets : List ℕ) → are_plain First [] octets ≡ true → plain_lines octets ≡ octets
 
 -- how many line feeds there are
 abbrev pub feeds : List ℕ → ℕ
@@ -33,7 +33,7 @@ feeds octets = count_by (λ b. b == 10) octets
 
 -- Each physical line comes out as one, so that the numbers of lines stay.
 abbrev pub PlainFeedsLaw : Type 0
-PlainFeedsLaw = (octets : List ℕ) → feeds (each_line plain_rule First [] octets) ≡ feeds octets
+PlainFeedsLaw = (octets : List ℕ) → feeds (plain_lines octets) ≡ feeds octets
 
 abbrev pub DeviceFeedsLaw : Type 0
-DeviceFeedsLaw = (name octets : List ℕ) → feeds (each_line (device_rule name) First [] octets) ≡ feeds octets
+DeviceFeedsLaw = (name octets : List ℕ) → feeds (lines_of_device name octets) ≡ feeds octets

@@ -1,8 +1,8 @@
-pub mod Lines
-pub mod Reading
-pub mod State
-pub mod Plain
-pub mod Notes
 pub mod Device
 pub mod Laws
+pub mod Lines
+pub mod Notes
 pub mod OthersNoted
+pub mod Plain
+pub mod Reading
+pub mod State

@@ -3,9 +3,10 @@
 use Rattle.std.specs.Prelude.{◌-◌, ◌==◌, ◌&&◌, ◌||◌, not, nat_eq, nat_lt, Bool, true, false, List, ℕ, [], ◌∷◌, ◌++◌, codes, drop, length, slice_index, take, if◌then◌else◌}
 use Rattle.std.specs.List.{ends_with, filter, list_all, list_any, position_or_len, prefix_len, starts_with, suffix_len}
 use Rattle.std.specs.Str.{bytes_eq}
+use Rattle.text.specs.Numbers.{is_digits}
 use Rattle.text.specs.Script.{joins}
 use Rattle.text.specs.Words.{is_blank}
-use Rattle.pasted.specs.Lines.{Rule, place_behind}
+use Rattle.pasted.specs.Lines.{Rule, each_line, place_behind}
 use Rattle.pasted.specs.declared.place.Place.{Place}
 use Rattle.pasted.specs.declared.place.Place.TheVariants.{First, Begin, Command, Other}
 
@@ -42,9 +43,9 @@ ends_with_sign word =
 abbrev pub tells_host : List ℕ → Bool
 tells_host word = not (slice_index word 0 == 35) && (list_any (λ b. b == 64) word || list_any (λ b. b == 58) word)
 
--- a prompt of one word: the sign alone, or behind a user, a host or a folder
+-- a prompt of one word: the sign alone, or behind a user, a host or a folder; or the number of a line of a shell's history
 abbrev pub is_prompt : List ℕ → Bool
-is_prompt word = ends_with_sign word && ((length word == 1) || tells_host word)
+is_prompt word = is_digits word || (ends_with_sign word && ((length word == 1) || tells_host word))
 
 -- a prompt of two words: those in brackets, or the sign apart
 unfoldable pub is_long_prompt : List ℕ → List ℕ → Bool
@@ -202,3 +203,7 @@ place_after place line = text_after place (unmarked place line)
 -- each physical line by itself
 abbrev pub plain_rule : Rule
 plain_rule = record { is_whole = false; turned = plain_line; next = place_after }
+
+-- the plain lines that the lines of an input mean
+abbrev pub plain_lines : List ℕ → List ℕ
+plain_lines octets = each_line plain_rule First [] octets

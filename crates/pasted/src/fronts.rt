@@ -4,6 +4,7 @@ ghost use Rattle.std.specs.Prelude.{◌≡◌, ◌==◌, ◌||◌, ◌&&◌, len
 ghost use Rattle.pasted.specs.Plain.{command, ends_with_sign, has_long_prompt, has_more_prompt, has_prompt, has_sudo, is_command, is_long_prompt, is_option, is_prompt, is_tc, past_more_prompt, past_option, past_prompt, past_sudo, tells_host};
 
 use crate::words::{first_word, next_word};
+use text::words::is_digits;
 
 /// Whether a word ends with the sign of a prompt.
 fn ends_with_sign(word: &[u8]) -> bool
@@ -22,10 +23,14 @@ fn tells_host(word: &[u8]) -> bool
     word.contains(&b'@') || word.contains(&b':')
 }
 
-/// Whether a word is a prompt: its sign alone, or behind a user, a host or a folder.
+/// Whether a word is a prompt: its sign alone, or behind a user, a host or a folder; or the number of a line of a
+/// shell's history.
 fn is_prompt(word: &[u8]) -> bool
     ensures { result ≡ is_prompt word.now }
 {
+    if is_digits(word) {
+        return true;
+    }
     ends_with_sign(word) && (word.len() == 1 || tells_host(word))
 }
 
