@@ -337,8 +337,8 @@ impl PcapngToClassic {
         requires { first ≤ length octets.now }
         ensures count { result ≤ length octets.now }
         ensures some { first ≤ result }
-        ensures goes_on { GoesFrom step (reading self.old) (reading self.new) octets.now is_last first
-            result out.old.items out.new.items }
+        ensures goes_on { GoesFrom step (reading self.old) (reading self.new) octets.now is_last
+            first result out.old.items out.new.items }
         ensures header { self.new.has_header ≡ self.old.has_header }
     {
         let mut at = first;
