@@ -15,11 +15,11 @@ WORDS = "bindings/web/faults.js"
 PARTS = ["A line is malformed", "A strict run finds something", "A capture is malformed", "An option has a bad value", "Files and memory"]
 # What the page never meets: it opens no files, has no strict runs, and lacks these options or gives them values of its own.
 UNMET = {"BadShift", "OUT is one of the inputs", "cannot open", "read failed", "write failed", "bounds", "bounds: no schedule was judged",
-         "bounds: no stream is in the table"} | {
+         "bounds: no stream is in the table", "NoColumn", "FieldCount", "NoPayload", "NoId"} | {
     f"bad value of --{name}"
-    for name in ("map", "frame", "stamp", "shift", "width", "device", "next")}
+    for name in ("map", "frame", "stamp", "shift", "width", "device", "next", "format", "fcs", "by", "within")}
 # What a strict run finds, and is no fault: it ends no run.
-FINDINGS = {"frame", "class", "paths", "paths: stream", "paths: no schedule was judged", "paths: no stream is in the network"}
+FINDINGS = {"compare: pair", "compare: missing", "compare: extra", "compare: no pair", "frame", "class", "paths", "paths: stream", "paths: no schedule was judged", "paths: no stream is in the network"}
 # A limit whose text says all.
 LIMITS = {"paths: there are more than 65536 ports"}
 # What needs no further words there.
@@ -95,6 +95,11 @@ def bounds(table, schedules, *words):
     return ["bounds", *words, "table"], schedules, {"table": table}
 
 
+def compare(first, *words):
+    """A comparison of this input with an empty capture."""
+    return ["compare", *words, "first", "second"], b"", {"first": first, "second": HEADER}
+
+
 NETWORK = b"port a room 8\nlink a b 1us\nclocks 1us\nstream 1 7 60 1ms 0us 1 via a b\n"
 
 
@@ -137,6 +142,10 @@ HELPED = {
     "LineKind::UnknownPort": (paths(NETWORK, command(b"c")), "the word behind dev is a port of the network"),
     "LineKind::Uncrossed": (paths(NETWORK + b"port c\n", command(b"c")), "nothing would be judged"),
     "LineKind::SecondSchedule": (paths(NETWORK, command(b"a") + command(b"a")), "each port has one schedule"),
+    "LineKind::NoColumn": (compare(b"id,end_ps\n"), "a file that begins as no capture is a table"),
+    "LineKind::FieldCount": (compare(b"id,start_ps\n1\n"), "each line has as many fields"),
+    "LineKind::NoPayload": (compare(b"id,start_ps\n1,0\n", "--by", "payload"), "a table of frames has no octets"),
+    "CaptureKind::NoId": (compare(HEADER + record(), "--by", "id"), "a frame carries an ID where streams --capture made it"),
     "CaptureKind::ShortHeader": (replay(HEADER[:23]), "a capture begins with a header of 24 octets"),
     "CaptureKind::BadMagic": (replay(header(magic=1)), "this is no classic pcap file"),
     "CaptureKind::BadVersion": (replay(header(minor=3)), "the version of a classic pcap file is 2.4"),
@@ -156,6 +165,10 @@ HELPED = {
     "ValueKind::Until": (replay(HEADER, "--until", "4294967297s"), "--until is picoseconds"),
     "ValueKind::Stamp": (replay(HEADER, "--stamp", "last"), "--stamp is start or end"),
     "ValueKind::Shift": (replay(HEADER, "--shift", "1min"), "--shift is picoseconds, or a number with its unit such as 37s"),
+    "ValueKind::Format": (replay(HEADER, "--format", "pcap2"), "--format is pcap, pcapng or auto"),
+    "ValueKind::Fcs": (replay(HEADER, "--fcs", "4"), "--fcs is absent or present"),
+    "ValueKind::By": (compare(b"", "--by", "time"), "--by is order, id or payload"),
+    "ValueKind::Within": (compare(b"", "--within", "1min"), "--within is picoseconds"),
     "ValueKind::Seed": ((["streams", "--seed", "x"], b"", {}), "--seed is a whole number from 0"),
     "ValueKind::From": ((["streams", "--from", "1min"], b"", {}), "--from is picoseconds"),
     "ValueKind::To": ((["draw", "--from", "1", "--to", "1"], b"", {}), "--to is picoseconds"),

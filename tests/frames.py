@@ -114,7 +114,12 @@ def case_the_share_of_the_wire_counts_from_the_first_frame_too(program):
         first = min((int(row[3]) for row in queued), default=None)
         since = 0 if first is None or first == last else busy * 10**6 // (last - first)
         wanted = f"summary wire busy {busy} ppm {busy * 10**6 // last} from {'-' if first is None else first} ppm {since}"
-        assert told.output.decode().splitlines()[-1] == wanted, (seed, told.output.decode().splitlines()[-1], wanted)
+        [wire] = [line for line in told.output.decode().splitlines() if line.startswith("summary wire")]
+        assert wire == wanted, (seed, wire, wanted)
+        changes = [int(line.split()[2]) for line in told.output.decode().splitlines() if line.startswith("installed change")]
+        early = sum(int(row[3]) < changes[0] for row in queued) if changes else 0
+        opens = [line for line in told.output.decode().splitlines() if line.startswith("summary open")]
+        assert opens == ([f"summary open {early} frames before {changes[0]}"] if early else []), (seed, opens, early)
         begun += bool(first)
     assert begun > 20, begun
 

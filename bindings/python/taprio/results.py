@@ -34,6 +34,7 @@ __all__ = [
     "Hop",
     "Installed",
     "Left",
+    "OpenSummary",
     "PathBound",
     "Paths",
     "PortBounds",
@@ -194,7 +195,18 @@ class WireSummary:
     """The share of the time since then. None of a summary that doesn't tell it."""
 
 
-Answer = Union[Queued, Dropped, Started, Installed, Refused, TcFault, Backward, Counted, Report, Left, ClassSummary, WireSummary]
+@dataclasses.dataclass(frozen=True)
+class OpenSummary:
+    """How many frames were queued before the first command was in force: all gates were open for them."""
+
+    frames: int
+    change: int
+    """From when on the command is in force, in picoseconds."""
+
+
+Answer = Union[
+    Queued, Dropped, Started, Installed, Refused, TcFault, Backward, Counted, Report, Left, ClassSummary, WireSummary, OpenSummary
+]
 
 
 @dataclasses.dataclass(frozen=True)
@@ -262,6 +274,11 @@ class Run:
     def wire(self) -> WireSummary | None:
         """The summary of the wire."""
         return next((it for it in self._told(("summary wire ",)) if isinstance(it, WireSummary)), None)
+
+    @functools.cached_property
+    def early(self) -> OpenSummary | None:
+        """The frames that were queued before the first command was in force; None where there are none, or no summary."""
+        return next((it for it in self._told(("summary open ",)) if isinstance(it, OpenSummary)), None)
 
     @functools.cached_property
     def left(self) -> dict[int, int]:
@@ -612,6 +629,7 @@ _LINES: list[tuple[re.Pattern[str], Callable[..., Answer]]] = [
         re.compile(r"summary wire busy (\d+) ppm (\d+)(?: from (\d+|-) ppm (\d+))?"),
         lambda *it: WireSummary(int(it[0]), int(it[1]), _wait(it[2] or "-"), None if it[3] is None else int(it[3])),
     ),
+    (re.compile(r"summary open (\d+) frames before (\d+)"), lambda *it: OpenSummary(*map(int, it))),
 ]
 _BY_WORD: dict[str, list[tuple[re.Pattern[str], Callable[..., Answer]]]] = {}
 for _pattern, _make in _LINES:

@@ -100,10 +100,10 @@ compare_telling = record { text = compare_text; status = compare_status }
 abbrev pub table_kind : TableFault → FaultKind
 table_kind Tables.LongLine = Kinds.Line LineKinds.LongLine
 table_kind Tables.TooManyLines = Kinds.Line LineKinds.TooManyLines
-table_kind Tables.NoColumn = Kinds.Line LineKinds.UnknownTableLine
-table_kind Tables.FieldCount = Kinds.Line LineKinds.WordCount
+table_kind Tables.NoColumn = Kinds.Line LineKinds.NoColumn
+table_kind Tables.FieldCount = Kinds.Line LineKinds.FieldCount
 table_kind Tables.BadNumber = Kinds.Line LineKinds.BadNumber
-table_kind Tables.NoPayload = Kinds.Line LineKinds.UnknownTableLine
+table_kind Tables.NoPayload = Kinds.Line LineKinds.NoPayload
 
 abbrev pub capture_kind : CapFault → FaultKind
 capture_kind Caps.ShortHeader = Kinds.Capture CaptureKinds.ShortHeader
@@ -123,7 +123,7 @@ abbrev pub trouble_kind : Trouble → FaultKind
 trouble_kind (Troubles.Line number fault) = table_kind fault
 trouble_kind (Troubles.Header fault) = capture_kind fault
 trouble_kind (Troubles.Record number (Records.Capture fault)) = capture_kind fault
-trouble_kind (Troubles.Record number Records.NoId) = Kinds.Capture CaptureKinds.BadLink
+trouble_kind (Troubles.Record number Records.NoId) = Kinds.Capture CaptureKinds.NoId
 
 abbrev pub compare_kind : CompareInput → FaultKind
 compare_kind (Inputs.Input side trouble) = trouble_kind trouble

@@ -241,10 +241,10 @@ fn table_kind(fault: TableFault) -> FaultKind
     match fault {
         TableFault::LongLine => FaultKind::Line(LineKind::LongLine),
         TableFault::TooManyLines => FaultKind::Line(LineKind::TooManyLines),
-        TableFault::NoColumn => FaultKind::Line(LineKind::UnknownTableLine),
-        TableFault::FieldCount => FaultKind::Line(LineKind::WordCount),
+        TableFault::NoColumn => FaultKind::Line(LineKind::NoColumn),
+        TableFault::FieldCount => FaultKind::Line(LineKind::FieldCount),
         TableFault::BadNumber => FaultKind::Line(LineKind::BadNumber),
-        TableFault::NoPayload => FaultKind::Line(LineKind::UnknownTableLine),
+        TableFault::NoPayload => FaultKind::Line(LineKind::NoPayload),
     }
 }
 
@@ -274,7 +274,7 @@ fn trouble_kind(trouble: Trouble) -> FaultKind
         Trouble::Line(_, fault) => table_kind(fault),
         Trouble::Header(fault) => capture_kind(fault),
         Trouble::Record(_, RecordFault::Capture(fault)) => capture_kind(fault),
-        Trouble::Record(_, RecordFault::NoId) => FaultKind::Capture(CaptureKind::BadLink),
+        Trouble::Record(_, RecordFault::NoId) => FaultKind::Capture(CaptureKind::NoId),
     }
 }
 

@@ -10,10 +10,13 @@ use crate::row_writer::{RowWriter, walk_rows};
 use crate::rows::{Arrival, Fate, FrameRow, has_column, put_head, put_row};
 use crate::streams::Streams;
 use abstract_port::separation::settling;
-use abstract_port::{Event, Refused, Start};
+use abstract_port::{Event, Start};
 use job::next_line;
 use port_text::answer_text::WriteFault;
-use script::{BadLine, Failure, RunFault, RunningPort, Said, Settings, Watch, read_line, read_tc};
+use script::{
+    BadLine, Failure, RunFault, RunningPort, Said, Settings, Watch, read_line, read_tc,
+    tell_command,
+};
 use std::alloc::Allocator;
 use std::io::{Read, Write};
 use text::line_reader::LineReader;
@@ -176,20 +179,11 @@ pub(crate) fn take_event<A: Allocator + Clone, B: Allocator, W: Write, H: Watch>
         }
         Event::Install(command) => {
             let answer = port.install(command);
-            tell_refusal(watch, 0, b"", answer);
+            tell_command(watch, 0, b"", answer);
             Ok(())
         }
         Event::Query => Ok(()),
         Event::Count(_) => Ok(()),
-    }
-}
-
-/// Calls who watches where the command of the line of this number is refused.
-fn tell_refusal<H: Watch>(watch: &mut H, number: u32, line: &[u8], answer: Result<u128, Refused>)
-    ensures { H.alerted (refused_alert answer) watch.old watch.new }
-{
-    if let Err(why) = answer {
-        watch.command_failed(number, line, Failure::Refused(why));
     }
 }
 
@@ -216,7 +210,7 @@ pub(crate) fn take_tc<A: Allocator, H: Watch>(
         Err(fault) => watch.command_failed(number, line, Failure::Malformed(fault)),
         Ok(command) => {
             let answer = port.install(&command);
-            tell_refusal(watch, number, line, answer);
+            tell_command(watch, number, line, answer);
         }
     }
 }

@@ -2,7 +2,7 @@
 
 use crate::marks::{Hint, Span, put_hint, span_at, span_behind, span_of, word_at};
 use crate::near::nearest;
-use crate::pasted::pasted_word;
+use crate::shell_words::pasted_word;
 use abstract_port::Refused;
 use abstract_port::class_map::{MapFault, QueueFault};
 use gates::gate_list::{GateFault, PlanFault};

@@ -16,6 +16,17 @@ fn line_hint(kind: LineKind, line: &[u8]) -> Option<Hint> {
             b"an input has at most 4000000 lines; where streams writes one, each frame takes a line, and each moment another",
         ),
         LineKind::NoLink | LineKind::NoWay => Hint::plain(network_text(kind)),
+        LineKind::NoColumn => Hint::plain(
+            b"a file that begins as no capture is a table, whose first line names the columns id and start_ps",
+        ),
+        LineKind::FieldCount => {
+            Hint::plain(
+                b"each line has as many fields, with commas between, as the first one names",
+            )
+        }
+        LineKind::NoPayload => {
+            Hint::plain(b"a table of frames has no octets: --by payload compares captures")
+        }
         _ if line.is_empty() => return None,
         LineKind::UnknownLine => unknown_line(line, false),
         LineKind::UnknownTableLine => unknown_line(line, true),
@@ -97,6 +108,10 @@ fn value_text(kind: ValueKind) -> &'static [u8] {
         ValueKind::Next => b"--next is the name of a port of the network",
         ValueKind::Shift =>
             b"--shift is picoseconds, or a number with its unit such as 37s, with - in front for an earlier moment",
+        ValueKind::Format => b"--format is pcap, pcapng or auto",
+        ValueKind::Fcs => b"--fcs is absent or present",
+        ValueKind::By => b"--by is order, id or payload",
+        ValueKind::Within => b"--within is picoseconds, or a number with its unit such as 1us",
     }
 }
 
@@ -106,7 +121,7 @@ fn capture_text(kind: CaptureKind) -> &'static [u8] {
         CaptureKind::ShortHeader =>
             b"a capture begins with a header of 24 octets: this one ends before",
         CaptureKind::BadMagic =>
-            b"this is no classic pcap file. If it is pcapng: editcap -F nsecpcap IN OUT",
+            b"this is no classic pcap file. If it is pcapng: --format auto reads it",
         CaptureKind::BadVersion => b"the version of a classic pcap file is 2.4",
         CaptureKind::BadLink =>
             b"the link type of the capture is Ethernet (1): capture at one Ethernet interface",
@@ -119,6 +134,8 @@ fn capture_text(kind: CaptureKind) -> &'static [u8] {
             b"a capture has at most 4000000 records: editcap -c 4000000 IN OUT splits it",
         CaptureKind::BadShift =>
             b"with --shift each record comes at moment 0 or later, and at 4294967296000000000000 ps at most",
+        CaptureKind::NoId =>
+            b"a frame carries an ID where streams --capture made it; --by payload or --by order compares others",
     }
 }
 
@@ -130,7 +147,7 @@ fn put_text<W: Write>(writer: &mut W, text: &'static [u8]) -> Result<(), WriteFa
 /// What a file is that begins like this, and is no capture that a replay reads.
 fn kind_of(octets: &[u8]) -> Option<&'static [u8]> {
     match octets {
-        [0x0a, 0x0d, 0x0d, 0x0a, ..] => Some(b"this is a pcapng file: editcap -F nsecpcap IN OUT"),
+        [0x0a, 0x0d, 0x0d, 0x0a, ..] => Some(b"this is a pcapng file: --format auto reads it"),
         [0x1f, 0x8b, ..] => Some(b"this is a gzip file: gunzip it first"),
         [0x28, 0xb5, 0x2f, 0xfd, ..] => Some(b"this is a zstd file: unzstd it first"),
         [b'f', b'r', b'a', b'm', b'e', b' ', ..]

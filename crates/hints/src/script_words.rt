@@ -2,7 +2,7 @@
 
 use crate::marks::{Hint, Span, span_at, span_behind, span_of, word_at};
 use crate::near::nearest;
-use crate::pasted::pasted_front;
+use crate::shell_words::pasted_front;
 use text::times::time;
 use text::words::{Words, number};
 use wire_time::MAX_MOMENT;

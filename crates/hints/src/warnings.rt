@@ -98,6 +98,30 @@ pub fn put_comment<W: Write>(writer: &mut W, number: u32, line: &[u8]) -> Result
     put_hint(writer, line, hint)
 }
 
+/// Writes that the commands of two lines, with these numbers, are of two devices: one port answers both.
+pub fn put_devices<'a, W: Write>(
+    writer: &mut W,
+    earlier: (u32, &'a [u8]),
+    later: (u32, &'a [u8]),
+) -> Result<(), WriteFault> {
+    put_parts(
+        writer,
+        &[
+            Part::Text(b"taprio_port: warning: script line "),
+            Part::Number(u128::from(later.0)),
+            Part::Text(b" is of device "),
+            Part::Text(later.1),
+            Part::Text(b", line "),
+            Part::Number(u128::from(earlier.0)),
+            Part::Text(b" of "),
+            Part::Text(earlier.1),
+            Part::Text(
+                b"\n    one port answers all lines: --device NAME takes those of one device\n",
+            ),
+        ],
+    )
+}
+
 /// Writes that the frame of this id, which came at this moment, in picoseconds, was dropped, and why.
 pub fn put_frame_dropped<W: Write>(
     writer: &mut W,

@@ -80,6 +80,12 @@ pub enum LineKind {
     Uncrossed,
     /// `SecondSchedule`: a line is a command for the same port, already.
     SecondSchedule,
+    /// `NoColumn`: the first line of a table of frames names no column `id` or `start_ps`.
+    NoColumn,
+    /// `FieldCount`: a line of a table of frames has too few fields.
+    FieldCount,
+    /// `NoPayload`: the payloads of a table of frames are asked for, and it has none.
+    NoPayload,
 }
 
 /// What is wrong with a capture.
@@ -103,6 +109,8 @@ pub enum CaptureKind {
     TooManyRecords,
     /// `BadShift`: the time of a shift brings a record before moment 0, or past the greatest moment.
     BadShift,
+    /// `NoId`: IDs are asked for, and the frame of a record carries none.
+    NoId,
 }
 
 /// Whose value is bad.
@@ -148,6 +156,14 @@ pub enum ValueKind {
     Next,
     /// `bad value of --shift`.
     Shift,
+    /// `bad value of --format`.
+    Format,
+    /// `bad value of --fcs`.
+    Fcs,
+    /// `bad value of --by`.
+    By,
+    /// `bad value of --within`.
+    Within,
 }
 
 /// Where the end of a run is reported: its text, and what it was.

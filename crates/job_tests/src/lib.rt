@@ -8,6 +8,7 @@ pub mod capture_tests;
 #[cfg(test)]
 mod checks;
 #[cfg(test)]
+#[cfg(test)]
 mod failures;
 #[cfg(test)]
 mod frames;

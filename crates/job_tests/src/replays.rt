@@ -169,6 +169,10 @@ impl Watch for Seen {
 
     fn command_failed(&mut self, _number: u32, _line: &[u8], _why: Failure) {}
 
+    fn command_taken(&mut self, _number: u32, _line: &[u8], _change: u128) {}
+
+    fn frame_came(&mut self, _moment: u128) {}
+
     fn frame_dropped(&mut self, _moment: u128, _frame: &Frame, _why: Dropped) {}
 
     fn class_used(&mut self, _class: u8) {}

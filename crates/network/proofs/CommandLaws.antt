@@ -6,7 +6,7 @@ use Rattle.abstract_port.specs.declared.Command.TheVariants as Commands
 use Rattle.job.specs.declared.fault.Fault.{Fault}
 use Rattle.network.specs.Network.{Net}
 use Rattle.network.specs.Reads.{Takes}
-use Rattle.network.specs.Device.{device_in}
+use Rattle.pasted.specs.Device.{device_in}
 use Rattle.network.specs.Schedules.{change_put, command_put, line_said, port_named}
 use Rattle.network.specs.declared.port_schedules.faults.SchedulesFault.{SchedulesFault}
 use Rattle.network.specs.declared.port_schedules.faults.SchedulesFault.TheVariants as Faults

@@ -1,5 +1,4 @@
 mod CommandLaws
-mod DeviceLaws
 mod EndLaws
 pub mod FirstLaws
 mod LineLaws

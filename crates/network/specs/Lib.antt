@@ -1,4 +1,3 @@
-pub mod Device
 pub mod Faults
 pub mod Kept
 pub mod Lines

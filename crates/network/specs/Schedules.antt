@@ -9,7 +9,7 @@ use Rattle.job.specs.declared.fault.Fault.TheVariants as Runs
 use Rattle.text.specs.Script.{Script, End, Broken, Line}
 use Rattle.text.specs.declared.line_reader.lines.LineFault.{LineFault}
 use Rattle.network.specs.Network.{Net, first_of, is_crossed, port_of}
-use Rattle.network.specs.Device.{device_in}
+use Rattle.pasted.specs.Device.{device_in}
 use Rattle.network.specs.declared.port_schedules.faults.BadSchedules.{BadSchedules}
 use Rattle.network.specs.declared.port_schedules.faults.SchedulesFault.{SchedulesFault}
 use Rattle.network.specs.declared.port_schedules.faults.SchedulesFault.TheVariants as Faults

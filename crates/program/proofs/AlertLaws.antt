@@ -47,6 +47,7 @@ use Rattle.traffic.specs.Faults.{streams_telling}
 use Rattle.text.specs.Words.{words_of}
 use Rattle.script.proofs.ReportLaws.{if_known}
 use Rattle.wire_time.specs.Moment.{greatest_moment}
+use Rattle.program.specs.Reading.{form_in}
 use Rattle.program.specs.Given.{checks_in, is_strict, looks_at_frames, settings_in}
 use Rattle.program.specs.Strict.{IsOfFile, IsSeen, IsStrictByFiles, IsStrictByStream, IsStrictCapture, IsStrictCheck, IsStrictEnd, IsStrictEnding, IsStrictFrames, IsStrictScript, IsWatchedByFiles, IsWatchedJob, Sight, any_counts, are_plain, may_find_nothing, status_by}
 use Rattle.program.specs.declared.job_name.JobName.{JobName}
@@ -150,6 +151,11 @@ strict_end strict frames nothing alerts run ended before here found plain same n
     by (inl some) = kept (seen.kept (counted ∙ some)) ∙ sym some
     by (inr nought) = stays nought ∙ (seen.exact (plain nought) ∙ counted)
 
+-- where the form of a capture is good
+where_formed : {F E P Q : Type 0} (r : Result F E) → (P → Q) → IfOk r (λ _. P) → IfOk r (λ _. Q)
+where_formed (Ok form) f p = f p
+where_formed (Err bad) f p = tt
+
 -- for who watches, by what it knows
 module _ {H : Type 0} (alerted : List Alert → H → H → Type 0) (know : H → Sight) (seen : (xs : List Alert) (s t : H) → alerted xs s t → IsSeen xs (know s) (know t)) where
   module _ (given : Found) (input : Option (List ℕ)) (run ended : Ended) (h k : H) (last : Bool) (looked : (know h).frames ≡ looks_at_frames given) (before : (know h).found ≡ false) (untimed : (know h).timed ≡ false) (kept : (know k).found ≡ true → last ≡ true)
@@ -194,11 +200,13 @@ module _ {H : Type 0} (alerted : List Alert → H → H → Type 0) (know : H �
     of_files : (capture streams : Option (List ℕ)) → IsWatchedByFiles alerted given capture streams input run h k → ((know k).timed ≡ false → last ≡ (know k).found) → IsStrictByFiles given capture streams input run ended
     of_files None None w stays = of_frames (settings_in greatest_moment given) w stays
     of_files None (Some path) w stays = of_file _ _ (settings_in greatest_moment given) (λ table s w. of_by_stream s table w) w
-    of_files (Some path) streams w stays = of_file _ _ (settings_in CAPTURE_END given) (λ capture s w. of_capture s capture w stays) w
+    of_files (Some path) streams w stays =
+        where_formed (form_in given) (λ w. of_file _ _ (settings_in CAPTURE_END given) (λ capture s w. of_capture s capture w stays) w) w
 
     pub strict_by : (job : JobName) → IsWatchedJob alerted job given input run h k → (may_find_nothing job (know k).frames (know k).timed ≡ false → last ≡ (know k).found) → IsStrictEnding job given input run ended
     strict_by Names.Script w stays = of_script (settings_in greatest_moment given) w stays
     strict_by Names.Check w stays = of_check (checks_in given) w
+    strict_by Names.Compare w stays = tt
     strict_by Names.Frames w stays = of_files (first_value given (codes "capture")) (first_value given (codes "by-stream")) w stays
     strict_by Names.Replay w stays = tt
     strict_by Names.Streams w stays = tt

@@ -21,7 +21,7 @@ pub record NameNone (matches : ArgMatches) (jobs : List Job) : Type 0 where
   pub none : All (λ (job : Job). subcommand_name_of matches ≡ Some (name_of job.name) → ⊥) jobs
 
 abbrev pub all_names : List JobName
-all_names = Names.Script ∷ Names.Replay ∷ Names.Check ∷ Names.Streams ∷ Names.Bounds ∷ Names.Paths ∷ Names.Plan ∷ Names.Draw ∷ Names.Frames ∷ []
+all_names = Names.Script ∷ Names.Replay ∷ Names.Check ∷ Names.Streams ∷ Names.Bounds ∷ Names.Paths ∷ Names.Plan ∷ Names.Draw ∷ Names.Frames ∷ Names.Compare ∷ []
 
 of_each : (P : JobName → Type 0) → All P all_names → (name : JobName) → P name
 of_each P each Names.Script = each 0 Names.Script (omega arith)
@@ -33,6 +33,7 @@ of_each P each Names.Paths = each 5 Names.Script (omega arith)
 of_each P each Names.Plan = each 6 Names.Script (omega arith)
 of_each P each Names.Draw = each 7 Names.Script (omega arith)
 of_each P each Names.Frames = each 8 Names.Script (omega arith)
+of_each P each Names.Compare = each 9 Names.Script (omega arith)
 
 -- where these are the jobs of all names, the words name no job
 pub none_at_all : (matches : ArgMatches) (jobs : List Job) → NameNone matches jobs → map (λ (job : Job). job.name) jobs ≡ all_names

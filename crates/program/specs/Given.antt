@@ -19,6 +19,9 @@ use Rattle.replay.specs.Timing.{timing_given}
 use Rattle.replay.specs.declared.timing.BadTiming.{BadTiming}
 use Rattle.replay.specs.declared.timing.Timing.{Timing}
 use Rattle.job.specs.RunEnd.{IsUnanswered}
+use Rattle.program.specs.Reading.{form_in, form_text}
+use Rattle.program.specs.declared.capture_input.BadForm.{BadForm}
+use Rattle.program.specs.declared.capture_input.CaptureForm.{CaptureForm}
 use Rattle.schedule_check.specs.CheckEnd.{checks_given}
 use Rattle.schedule_check.specs.declared.settings.CheckSettings.{CheckSettings}
 use Rattle.script.specs.ScriptEnd.{IsEnding, IsRefusal, settings_given}
@@ -178,11 +181,12 @@ frames_settings None found = settings_in greatest_moment found
 frames_settings (Some path) found = settings_in CAPTURE_END found
 
 -- The end of a run on a script and a capture that the words name: that of the script and of some octets, since what a file gives is not known, or of the
--- path that can't be opened; or of a value that is bad, which comes first.
-abbrev pub IsGivenCapture : Result Setup BadValue → List ℕ → Option (List ℕ) → Ended → (old got errors_old errors_new : Option (List ℕ)) → Type 0
-IsGivenCapture (Ok setup) path input ended old got errors_old errors_new =
+-- path that can't be opened; or of a value that is bad, which comes first, and that of the capture's form after the port's.
+abbrev pub IsGivenCapture : Result Setup BadValue → Result CaptureForm BadForm → List ℕ → Option (List ℕ) → Ended → (old got errors_old errors_new : Option (List ℕ)) → Type 0
+IsGivenCapture (Ok setup) (Err bad) path input ended old got errors_old errors_new = IsUnanswered 2 (form_text bad) ended old got errors_old errors_new
+IsGivenCapture (Ok setup) (Ok form) path input ended old got errors_old errors_new =
     ((capture : Option (List ℕ)) × IsCaptureEnding setup input capture ended old got errors_old errors_new) ⊎ IsUnanswered 4 (open_text path) ended old got errors_old errors_new
-IsGivenCapture (Err value) path input ended old got errors_old errors_new = IsRefusal value ended old got errors_old errors_new
+IsGivenCapture (Err value) form path input ended old got errors_old errors_new = IsRefusal value ended old got errors_old errors_new
 
 -- The end of a run on a script, where the words name a table of streams or none. With none, that of the table of the script's frames; else that of the
 -- table with their streams and of some octets, since what a file gives is not known, or of the path that can't be opened; or of a value that is bad, which
@@ -196,4 +200,5 @@ IsGivenTable (Err value) (Some path) input ended old got errors_old errors_new =
 -- the end of a run of `frames`, where the words name a capture or none: a table of streams does not go with one
 abbrev pub IsGivenFrames : Found → (capture streams : Option (List ℕ)) → Option (List ℕ) → Ended → (old got errors_old errors_new : Option (List ℕ)) → Type 0
 IsGivenFrames found None streams input ended old got errors_old errors_new = IsGivenTable (frames_settings None found) streams input ended old got errors_old errors_new
-IsGivenFrames found (Some path) streams input ended old got errors_old errors_new = IsGivenCapture (frames_settings (Some path) found) path input ended old got errors_old errors_new
+IsGivenFrames found (Some path) streams input ended old got errors_old errors_new =
+    IsGivenCapture (frames_settings (Some path) found) (form_in found) path input ended old got errors_old errors_new

@@ -26,6 +26,11 @@ use Rattle.replay.specs.Words.{IsReplayEnding, got}
 use Rattle.replay.specs.declared.timing.BadTiming.{BadTiming}
 use Rattle.replay.specs.declared.timing.Timing.{Timing}
 use Rattle.program.specs.Given.{IsGivenBounds, IsGivenFrames, IsGivenPaths, IsGivenPlan, IsGivenStreams, flag_in, bounds_in, draws_in, checks_in, is_strict, memory_text, over_input_text, plan_in, settings_in, timing_in}
+use Rattle.program.specs.Compared.{IsGivenCompare, compare_in}
+use Rattle.program.specs.Plain.{input_of}
+use Rattle.program.specs.Reading.{form_in, form_text, read_as}
+use Rattle.program.specs.declared.capture_input.BadForm.{BadForm}
+use Rattle.program.specs.declared.capture_input.CaptureForm.{CaptureForm}
 use Rattle.program.specs.Strict.{IsStrictEnding}
 use Rattle.program.specs.Table.{name_of, program_app}
 use Rattle.program.specs.declared.job_name.JobName.{JobName}
@@ -40,30 +45,32 @@ pub record IsReplayed (settings : Setup) (timing : Timing) (capture : Option (Li
   pub ending : IsReplayEnding settings timing script capture ended (got old departures_old) (got new departures_new) errors_old errors_new
 
 -- The end of a replay of what is open: memory is out before anything is read; or that of the files, with the standard input as the capture where none
--- is open.
-abbrev pub IsReplayedOrForgotten : Setup → Timing → Option (Option (List ℕ)) → Option (List ℕ) → Ended → (old new errors_old errors_new : Option (List ℕ)) → Type 0
-IsReplayedOrForgotten settings timing capture input ended old new errors_old errors_new =
-    IsUnanswered 4 memory_text ended old new errors_old errors_new ⊎ IsReplayed settings timing (unwrap_or capture input) ended old new errors_old errors_new
+-- is open, read in its format.
+abbrev pub IsReplayedOrForgotten : Setup → Timing → CaptureForm → Option (Option (List ℕ)) → Option (List ℕ) → Ended → (old new errors_old errors_new : Option (List ℕ)) → Type 0
+IsReplayedOrForgotten settings timing form capture input ended old new errors_old errors_new =
+    IsUnanswered 4 memory_text ended old new errors_old errors_new
+    ⊎ IsReplayed settings timing (read_as form (unwrap_or capture input)) ended old new errors_old errors_new
 
--- the capture of a replay is the standard input where the words say so, and else some octets of a file
-abbrev pub IsCapture : Found → Option (List ℕ) → Option (List ℕ) → Type 0
-IsCapture found input capture = first_value found (codes "capture") ≡ Some (codes "-") → capture ≡ input
+-- the capture of a replay is the standard input where the words say so, and else some octets of a file; it is read in its form
+abbrev pub IsCapture : CaptureForm → Found → Option (List ℕ) → Option (List ℕ) → Type 0
+IsCapture form found input capture = first_value found (codes "capture") ≡ Some (codes "-") → capture ≡ read_as form input
 
--- The end of a replay with these settings: a value is refused; or a word about time stamps; or a file can't be opened, or the output is an input, or memory is
--- out, before anything is read; or that of the files.
-abbrev pub IsReplayBy : Result Setup BadValue → Result Timing BadTiming → Found → Option (List ℕ) → Ended → (old new errors_old errors_new : Option (List ℕ)) → Type 0
-IsReplayBy (Err value) timing found input ended old new errors_old errors_new = IsRefusal value ended old new errors_old errors_new
-IsReplayBy (Ok settings) (Err bad) found input ended old new errors_old errors_new = IsUnanswered 2 (timing_text bad) ended old new errors_old errors_new
-IsReplayBy (Ok settings) (Ok timing) found input ended old new errors_old errors_new =
+-- The end of a replay with these settings: a value is refused; or a word about time stamps; or one about the form of the capture; or a file can't be opened,
+-- or the output is an input, or memory is out, before anything is read; or that of the files.
+abbrev pub IsReplayBy : Result Setup BadValue → Result Timing BadTiming → Result CaptureForm BadForm → Found → Option (List ℕ) → Ended → (old new errors_old errors_new : Option (List ℕ)) → Type 0
+IsReplayBy (Err value) timing form found input ended old new errors_old errors_new = IsRefusal value ended old new errors_old errors_new
+IsReplayBy (Ok settings) (Err bad) form found input ended old new errors_old errors_new = IsUnanswered 2 (timing_text bad) ended old new errors_old errors_new
+IsReplayBy (Ok settings) (Ok timing) (Err bad) found input ended old new errors_old errors_new = IsUnanswered 2 (form_text bad) ended old new errors_old errors_new
+IsReplayBy (Ok settings) (Ok timing) (Ok form) found input ended old new errors_old errors_new =
     ((path : List ℕ) × IsUnanswered 4 (open_text path) ended old new errors_old errors_new)
     ⊎ (((path : List ℕ) × IsUnanswered 2 (over_input_text path) ended old new errors_old errors_new)
     ⊎ (IsUnanswered 4 memory_text ended old new errors_old errors_new
-    ⊎ ((capture : Option (List ℕ)) × IsCapture found input capture × IsReplayed settings timing capture ended old new errors_old errors_new)))
+    ⊎ ((capture : Option (List ℕ)) × IsCapture form found input capture × IsReplayed settings timing capture ended old new errors_old errors_new)))
 
 -- The end of a replay by what the words give.
 abbrev pub IsGivenReplay : Found → Option (List ℕ) → Ended → (old new errors_old errors_new : Option (List ℕ)) → Type 0
 IsGivenReplay found input ended old new errors_old errors_new =
-    IsReplayBy (settings_in CAPTURE_END found) (timing_in found) found input ended old new errors_old errors_new
+    IsReplayBy (settings_in CAPTURE_END found) (timing_in found) (form_in found) found input ended old new errors_old errors_new
 
 -- The end of a job by what the words give it, on what the standard input has.
 abbrev pub IsJobEnding : JobName → Found → Option (List ℕ) → Ended → (old new errors_old errors_new : Option (List ℕ)) → Type 0
@@ -84,6 +91,7 @@ IsJobEnding Names.Draw found input ended old new errors_old errors_new =
     IsDrawEnding (settings_in greatest_moment found) (draws_in found) input ended old new errors_old errors_new
 IsJobEnding Names.Frames found input ended old new errors_old errors_new =
     IsGivenFrames found (first_value found (codes "capture")) (first_value found (codes "by-stream")) input ended old new errors_old errors_new
+IsJobEnding Names.Compare found input ended old new errors_old errors_new = IsGivenCompare (compare_in found) ended old new errors_old errors_new
 
 -- an end, and the same of a strict run, which has status 1 where something was found and all else is done
 abbrev pub IsJudged : Bool → Ended → Ended → Type 0
@@ -144,12 +152,12 @@ IsFound matches job given = subcommand_rows_of matches ≡ Some (name_of job, ro
 abbrev pub IsNamed : List Text → JobName → Found → Type 0
 IsNamed words job found = subcommand_of program_app words ≡ Some (name_of job, rows_of found)
 
--- The end of the job that the words name, with what they give it.
+-- The end of the job that the words name, with what they give it, on the lines of the standard input that they ask for.
 pub record IsNamedEnding (words : List Text) (input : Option (List ℕ)) (ended : Ended) (old new : Option (List ℕ)) : Type 0 where
   pub job : JobName
   pub found : Found
   pub named : IsNamed words job found
-  pub ending : IsWatchedEnding job found input ended old new
+  pub ending : IsWatchedEnding job found (input_of job found input) ended old new
 
 -- The end where the words name no job.
 pub record IsJobless (words : List Text) (ended : Ended) (old new errors_old errors_new : Option (List ℕ)) : Type 0 where

@@ -1,6 +1,9 @@
+pub mod Compared
 pub mod Given
 pub mod Jobs
+pub mod Plain
 pub mod Progress
+pub mod Reading
 pub mod Strict
 pub mod StrictLaws
 pub mod Table

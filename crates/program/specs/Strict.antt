@@ -24,6 +24,7 @@ use Rattle.script.specs.declared.settings.BadValue.{BadValue}
 use Rattle.port_text.specs.Reader.{IsReader}
 use Rattle.port_text.specs.declared.tc_reader.fault.TcFault.{TcFault}
 use Rattle.wire_time.specs.Moment.{greatest_moment}
+use Rattle.program.specs.Reading.{form_in}
 use Rattle.program.specs.Given.{checks_in, looks_at_frames, is_strict, settings_in}
 use Rattle.program.specs.declared.job_name.JobName.{JobName}
 use Rattle.program.specs.declared.job_name.JobName.TheVariants as Names
@@ -116,7 +117,8 @@ IsOfFile holds run s = ((octets : Option (List ℕ)) × holds octets s) ⊎ (run
 abbrev pub IsStrictByFiles : Found → (capture streams : Option (List ℕ)) → Option (List ℕ) → Ended → Ended → Type 0
 IsStrictByFiles found None None input run ended = IfOk (settings_in greatest_moment found) (IsStrictFrames found input run ended)
 IsStrictByFiles found None (Some path) input run ended = IfOk (settings_in greatest_moment found) (IsOfFile (λ table. IsStrictByStream found table input run ended) run)
-IsStrictByFiles found (Some path) streams input run ended = IfOk (settings_in CAPTURE_END found) (IsOfFile (λ capture. IsStrictCapture found capture input run ended) run)
+IsStrictByFiles found (Some path) streams input run ended =
+    IfOk (form_in found) (λ form. IfOk (settings_in CAPTURE_END found) (IsOfFile (λ capture. IsStrictCapture found capture input run ended) run))
 
 -- The exit status of a script, a check or a table of frames whose values are good, by the alerts of its input, and by the status with which the job itself
 -- ended.
@@ -144,7 +146,8 @@ IsWatchedTable alerted settings (Some path) input ended h k = IfOk settings (IsO
 
 abbrev pub IsWatchedByFiles : {H : Type 0} → (List Alert → H → H → Type 0) → Found → (capture streams : Option (List ℕ)) → Option (List ℕ) → Ended → H → H → Type 0
 IsWatchedByFiles alerted found None streams input ended h k = IsWatchedTable alerted (settings_in greatest_moment found) streams input ended h k
-IsWatchedByFiles alerted found (Some path) streams input ended h k = IsWatchedBeside alerted (settings_in CAPTURE_END found) input ended h k
+IsWatchedByFiles alerted found (Some path) streams input ended h k =
+    IfOk (form_in found) (λ form. IsWatchedBeside alerted (settings_in CAPTURE_END found) input ended h k)
 
 -- who watches a script, a check or a table of frames was told its alerts
 abbrev pub IsWatchedJob : {H : Type 0} → (List Alert → H → H → Type 0) → JobName → Found → Option (List ℕ) → Ended → H → H → Type 0

@@ -22,6 +22,7 @@ name_of Names.Paths = codes "paths"
 name_of Names.Plan = codes "plan"
 name_of Names.Draw = codes "draw"
 name_of Names.Frames = codes "frames"
+name_of Names.Compare = codes "compare"
 
 -- `--NAME VALUE`, or nothing
 abbrev pub option : Text → Rule
@@ -42,35 +43,37 @@ excluding rule = record rule { is_free = false }
 -- the words of each job, in the order in which they are added
 abbrev pub rules_of : JobName → List Rule
 rules_of Names.Script =
-    option (codes "rate") ∷ option (codes "mtu") ∷ option (codes "room") ∷ option (codes "until") ∷ flag (codes "summary")
+    option (codes "rate") ∷ option (codes "mtu") ∷ option (codes "room") ∷ option (codes "until") ∷ flag (codes "tolerant") ∷ option (codes "device") ∷ flag (codes "summary")
     ∷ flag (codes "strict") ∷ flag (codes "strict-frames") ∷ flag (codes "explain") ∷ []
 rules_of Names.Replay =
     option (codes "rate") ∷ option (codes "mtu") ∷ option (codes "room") ∷ option (codes "until") ∷ option (codes "stamp")
-    ∷ option (codes "shift") ∷ flag (codes "summary") ∷ flag (codes "progress") ∷ flag (codes "strict") ∷ flag (codes "strict-frames") ∷ flag (codes "explain")
+    ∷ option (codes "shift") ∷ option (codes "format") ∷ option (codes "fcs") ∷ flag (codes "tolerant") ∷ option (codes "device") ∷ flag (codes "summary") ∷ flag (codes "progress") ∷ flag (codes "strict") ∷ flag (codes "strict-frames") ∷ flag (codes "explain")
     ∷ file (codes "script") ∷ file (codes "capture") ∷ file (codes "out") ∷ []
 rules_of Names.Check =
     option (codes "rate") ∷ option (codes "mtu") ∷ option (codes "map") ∷ flag (codes "shares") ∷ flag (codes "windows")
-    ∷ option (codes "frame") ∷ flag (codes "script") ∷ flag (codes "strict") ∷ flag (codes "explain") ∷ []
+    ∷ option (codes "frame") ∷ flag (codes "script") ∷ flag (codes "tolerant") ∷ option (codes "device") ∷ flag (codes "strict") ∷ flag (codes "explain") ∷ []
 rules_of Names.Streams =
     option (codes "with") ∷ option (codes "from") ∷ flag (codes "late") ∷ option (codes "seed") ∷ excluding (option (codes "capture"))
     ∷ flag (codes "strict") ∷ flag (codes "explain") ∷ []
 rules_of Names.Bounds =
     option (codes "rate") ∷ option (codes "mtu") ∷ option (codes "room") ∷ option (codes "map") ∷ option (codes "frames")
-    ∷ option (codes "silent") ∷ flag (codes "leftovers") ∷ flag (codes "slack") ∷ flag (codes "why") ∷ flag (codes "strict")
+    ∷ option (codes "silent") ∷ flag (codes "leftovers") ∷ flag (codes "slack") ∷ flag (codes "why") ∷ flag (codes "tolerant") ∷ option (codes "device") ∷ flag (codes "strict")
     ∷ flag (codes "explain") ∷ file (codes "table") ∷ []
 rules_of Names.Paths =
     option (codes "rate") ∷ option (codes "mtu") ∷ option (codes "room") ∷ option (codes "frames") ∷ option (codes "silent")
-    ∷ flag (codes "leftovers") ∷ option (codes "next") ∷ flag (codes "strict") ∷ flag (codes "explain") ∷ file (codes "network") ∷ []
+    ∷ flag (codes "leftovers") ∷ option (codes "next") ∷ flag (codes "tolerant") ∷ flag (codes "strict") ∷ flag (codes "explain") ∷ file (codes "network") ∷ []
 rules_of Names.Plan =
     option (codes "rate") ∷ option (codes "mtu") ∷ option (codes "room") ∷ option (codes "cycle") ∷ option (codes "entries")
     ∷ option (codes "least-interval") ∷ option (codes "device") ∷ option (codes "base-time") ∷ flag (codes "share")
     ∷ flag (codes "explain") ∷ file (codes "table") ∷ []
 rules_of Names.Draw =
     option (codes "rate") ∷ option (codes "mtu") ∷ option (codes "room") ∷ option (codes "until") ∷ option (codes "from")
-    ∷ option (codes "to") ∷ option (codes "width") ∷ flag (codes "strict") ∷ flag (codes "explain") ∷ []
+    ∷ option (codes "to") ∷ option (codes "width") ∷ flag (codes "tolerant") ∷ option (codes "device") ∷ flag (codes "strict") ∷ flag (codes "explain") ∷ []
 rules_of Names.Frames =
     option (codes "rate") ∷ option (codes "mtu") ∷ option (codes "room") ∷ option (codes "until")
-    ∷ excluding (option (codes "capture")) ∷ option (codes "by-stream") ∷ flag (codes "strict") ∷ flag (codes "explain") ∷ []
+    ∷ excluding (option (codes "capture")) ∷ option (codes "format") ∷ option (codes "fcs") ∷ option (codes "by-stream") ∷ flag (codes "tolerant") ∷ option (codes "device") ∷ flag (codes "strict") ∷ flag (codes "explain") ∷ []
+rules_of Names.Compare =
+    option (codes "by") ∷ option (codes "within") ∷ flag (codes "explain") ∷ file (codes "first") ∷ file (codes "second") ∷ []
 
 -- a job, with its words
 abbrev pub job_shape : JobName → Shape
@@ -80,7 +83,7 @@ job_shape job = record (new_shape (name_of job)) { rules = rules_of job }
 abbrev pub program_app : App
 program_app = record {
   top = record (new_shape (codes "taprio_port")) { is_leaf = false; has_version = true; subcommand_required = true };
-  subs = map job_shape (Names.Script ∷ Names.Replay ∷ Names.Check ∷ Names.Streams ∷ Names.Bounds ∷ Names.Paths ∷ Names.Plan ∷ Names.Draw ∷ Names.Frames ∷ []);
+  subs = map job_shape (Names.Script ∷ Names.Replay ∷ Names.Check ∷ Names.Streams ∷ Names.Bounds ∷ Names.Paths ∷ Names.Plan ∷ Names.Draw ∷ Names.Frames ∷ Names.Compare ∷ []);
 }
 
 -- ---- what the code's table says

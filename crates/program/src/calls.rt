@@ -1,6 +1,6 @@
 //! What is answered to the words of the program.
 
-ghost use Rattle.std.specs.Prelude.{◌≡◌, [], IfErr, IfSome, map, string_bytes, true};
+ghost use Rattle.std.specs.Prelude.{◌≡◌, [], IfErr, IfSome, map, option_map, string_bytes, true};
 ghost use Rattle.text.specs.Buffered.{writer_buffer, writer_contents};
 ghost use Rattle.clap.specs.Values.{kind_of};
 ghost use Rattle.clap.specs.Matches.{found_of, subcommand_name_of};
@@ -10,6 +10,7 @@ ghost use Rattle.schedule_check.specs.Alerts as Checks;
 ghost use Rattle.schedule_check.specs.Checked.{whole_check};
 ghost use Rattle.schedule_check.specs.Windows.{IsTeller, Teller};
 ghost use Rattle.drawing.specs.PictureEnd.{IsDrawEnding};
+ghost use Rattle.program.specs.Plain.{input_of, lines_in};
 ghost use Rattle.program.specs.Table.{name_of};
 ghost use Rattle.program.specs.Given.{checks_in, draws_in, settings_in};
 ghost use Rattle.script.specs.Alerts as Scripts;
@@ -17,13 +18,16 @@ ghost use Rattle.script.specs.ScriptEnd.{IsEnding, whole_script};
 ghost use Rattle.wire_time.specs.Moment.{greatest_moment};
 
 use crate::bounds_call::bounds_given;
+use crate::compare_call::compare_given;
 use crate::end_forgotten;
 use crate::frames_call::frames_given;
 use crate::job_name::JobName;
+use crate::noted::Noted;
 use crate::onlooker::{FaultText, Onlooker};
-use crate::options::{JOBS, checks_of, command, draws_of, is_given, looks_of, values_of};
+use crate::options::{JOBS, checks_of, command, draws_of, is_given, looks_of, value_of, values_of};
 use crate::paths_call::paths_given;
 use crate::piped::Piped;
+use crate::plain_input::{PassedOver, changes_lines, plain_reader};
 use crate::plan_call::plan_for;
 use crate::progress::Progress;
 use crate::replay_call::{first_octets, replay_given};
@@ -31,6 +35,7 @@ use crate::streams_call::streams_given;
 use clap::error::ErrorKind;
 use clap::{ArgMatches, Error};
 use drawing::answer_draw;
+use hints::{put_others, put_passed};
 use job::{Ended, Errors, end_told};
 use schedule_check::answer_check;
 use script::{Watch, answer_script};
@@ -167,7 +172,7 @@ fn answer_refusal<B: Allocator, W: Write + Drop, E: Write>(
     }
 }
 
-/// Answers a job with its options, as the words give them.
+/// Answers a job with its options, as the words give them, and notes what was met in its inputs.
 fn answer_job<F: Files, B: Allocator, R: Read, W: Write + Drop, E: Errors, H: Watch>(
     files: &F,
     alloc: Global,
@@ -177,6 +182,7 @@ fn answer_job<F: Files, B: Allocator, R: Read, W: Write + Drop, E: Errors, H: Wa
     answers: BufWriter<W, B>,
     errors: &mut E,
     watch: &mut H,
+    noted: &mut Noted,
 ) -> (Ended, W)
     ensures ending { IsJobEnding name (found_of matches.now) (R.remaining reader.old) result.0
         (writer_contents W.contents answers) (W.contents result.1) (E.contents errors.old)
@@ -185,15 +191,20 @@ fn answer_job<F: Files, B: Allocator, R: Read, W: Write + Drop, E: Errors, H: Wa
         (R.remaining reader.old) result.0 watch.old watch.new }
 {
     match name {
+        JobName::Compare => compare_given(files, alloc, matches, answers, errors, noted),
         JobName::Script => answer_given(alloc, matches, reader, answers, errors, watch),
-        JobName::Replay => replay_given(files, alloc, matches, reader, answers, errors, watch),
+        JobName::Replay => replay_given(
+            files, alloc, matches, reader, answers, errors, watch, noted,
+        ),
         JobName::Check => check_given(alloc, matches, reader, answers, errors, watch),
         JobName::Streams => streams_given(files, alloc, matches, reader, answers, errors, watch),
         JobName::Bounds => bounds_given(files, alloc, matches, reader, answers, errors, watch),
         JobName::Paths => paths_given(files, alloc, matches, reader, answers, errors, watch),
         JobName::Plan => plan_for(files, alloc, matches, answers, errors, watch),
         JobName::Draw => draw_given(alloc, matches, reader, answers, errors, watch),
-        JobName::Frames => frames_given(files, alloc, matches, reader, answers, errors, watch),
+        JobName::Frames => frames_given(
+            files, alloc, matches, reader, answers, errors, watch, noted,
+        ),
     }
 }
 
@@ -204,11 +215,16 @@ fn report_fault<F: Files, C: Clock, P: Write + Drop, E: Write>(
     text: &FaultText,
     ended: Ended,
     is_closed: bool,
+    noted: &Noted,
     onlooker: &mut Onlooker<'_, '_, C, P, E>,
 )
     ensures { onlooker.new.found ≡ onlooker.old.found }
 {
     if ended.status == 4 && is_closed {
+        return;
+    }
+    if let Some(block) = &noted.block {
+        onlooker.report_block(text, block, noted.is_of_two);
         return;
     }
     let capture = first_octets(files, matches, text);
@@ -244,6 +260,7 @@ fn answer_watched<
     }
     let looks = looks_of(matches, terminal);
     let mut text = FaultText::new();
+    let mut noted = Noted::nothing();
     let mut onlooker = Onlooker::new(alloc, progress, errors, looks);
     let (ended, writer) = answer_job(
         files,
@@ -254,6 +271,7 @@ fn answer_watched<
         answers,
         &mut text,
         &mut onlooker,
+        &mut noted,
     );
     onlooker.warn_of_nothing(name, ended, writer.is_written());
     report_fault(
@@ -262,9 +280,92 @@ fn answer_watched<
         &text,
         ended,
         writer.is_closed(),
+        &noted,
         &mut onlooker,
     );
+    onlooker.tell_rounded(noted.rounded);
+    onlooker.tell_passed(&noted.passed);
     (looks.judged(ended, onlooker.has_found()), writer)
+}
+
+/// Writes what was passed over in the lines of an input.
+fn put_passed_over<E: Write>(errors: &mut E, passed: &PassedOver) {
+    let _ = put_passed(errors, &passed.pasted);
+    let _ = put_others(errors, &passed.others);
+    let _ = errors.flush();
+}
+
+/// Answers a job on the lines that the words ask for, in place of those of the standard input, and reports what was
+/// passed over.
+fn answer_plain<
+    F: Files,
+    B: Allocator,
+    R: Read,
+    W: Write + Drop,
+    E: Write,
+    C: Clock,
+    P: Write + Drop,
+>(
+    files: &F,
+    alloc: Global,
+    name: JobName,
+    matches: &ArgMatches<'_>,
+    reader: &mut R,
+    answers: BufWriter<Piped<W>, B>,
+    errors: &mut E,
+    progress: &mut Progress<'_, C, P>,
+    terminal: bool,
+) -> (Ended, Piped<W>)
+    ensures { IsWatchedEnding name (found_of matches.now)
+        (option_map (lines_in (found_of matches.now)) (R.remaining reader.old)) result.0
+        (writer_contents (⟦<Piped<W> as Write>⟧.contents) answers)
+        ((⟦<Piped<W> as Write>⟧.contents) result.1) }
+{
+    let mut passed = PassedOver::none();
+    let tolerant = is_given(matches, "tolerant");
+    let device = value_of(matches, "device");
+    let mut lines = plain_reader(alloc, reader, tolerant, device, &mut passed);
+    let ended = answer_watched(
+        files, alloc, name, matches, &mut lines, answers, errors, progress, terminal,
+    );
+    drop(lines);
+    put_passed_over(errors, &passed);
+    ended
+}
+
+/// Answers a job on the lines of the standard input, as the words ask for them.
+fn answer_asked<
+    F: Files,
+    B: Allocator,
+    R: Read,
+    W: Write + Drop,
+    E: Write,
+    C: Clock,
+    P: Write + Drop,
+>(
+    files: &F,
+    alloc: Global,
+    name: JobName,
+    matches: &ArgMatches<'_>,
+    reader: &mut R,
+    answers: BufWriter<Piped<W>, B>,
+    errors: &mut E,
+    progress: &mut Progress<'_, C, P>,
+    terminal: bool,
+) -> (Ended, Piped<W>)
+    ensures { IsWatchedEnding name (found_of matches.now)
+        (input_of name (found_of matches.now) (R.remaining reader.old)) result.0
+        (writer_contents (⟦<Piped<W> as Write>⟧.contents) answers)
+        ((⟦<Piped<W> as Write>⟧.contents) result.1) }
+{
+    if changes_lines(name, matches) {
+        return answer_plain(
+            files, alloc, name, matches, reader, answers, errors, progress, terminal,
+        );
+    }
+    answer_watched(
+        files, alloc, name, matches, reader, answers, errors, progress, terminal,
+    )
 }
 
 /// The job that the words name, and what they give it.
@@ -315,7 +416,7 @@ pub(crate) fn answer_words<
         Err(error) => return answer_refusal(alloc, &error, answers, errors),
     };
     match job_of(&matches) {
-        Some((name, given)) => answer_watched(
+        Some((name, given)) => answer_asked(
             files, alloc, name, given, reader, answers, errors, progress, terminal,
         ),
         // (the parser refuses words without a job)

@@ -1,14 +1,17 @@
 //! The table of the frames of a script, which may have the streams of a table from a file, or run beside a capture from
 //! one.
 
-ghost use Rattle.std.specs.Prelude.{◌≡◌, IfErr, Some, codes};
+ghost use Rattle.std.specs.Prelude.{◌≡◌, IfErr, IfOk, Some, codes};
 ghost use Rattle.text.specs.Buffered.{writer_contents};
 ghost use Rattle.clap.specs.Matches.{first_value, found_of};
 ghost use Rattle.capture.specs.declared.writer.TheConstants.{CAPTURE_END};
 ghost use Rattle.program.specs.Given.{IsGivenCapture, IsGivenFrames, IsGivenTable, frames_settings, settings_in};
+ghost use Rattle.program.specs.Reading.{form_in};
 ghost use Rattle.program.specs.Strict.{IsWatchedBeside, IsWatchedByFiles, IsWatchedTable};
 ghost use Rattle.wire_time.specs.Moment.{greatest_moment};
 
+use crate::capture_input::{classic_reader, end_unformed, form_given};
+use crate::noted::Noted;
 use crate::options::values_of;
 use crate::replay_call::{end_unopened, open};
 use capture::CAPTURE_END;
@@ -34,12 +37,15 @@ fn frames_of_capture<F: Files, B: Allocator, R: Read, W: Write + Drop, E: Errors
     answers: BufWriter<W, B>,
     errors: &mut E,
     watch: &mut H,
+    noted: &mut Noted,
 ) -> (Ended, W)
-    ensures ending { IsGivenCapture (settings_in CAPTURE_END (found_of matches.now)) path.now
+    ensures ending { IsGivenCapture (settings_in CAPTURE_END (found_of matches.now))
+        (form_in (found_of matches.now)) path.now
         (R.remaining reader.old) result.0 (writer_contents W.contents answers) (W.contents result.1)
         (E.contents errors.old) (E.contents errors.new) }
-    ensures watched { IsWatchedBeside H.alerted (settings_in CAPTURE_END (found_of matches.now))
-        (R.remaining reader.old) result.0 watch.old watch.new }
+    ensures watched { IfOk (form_in (found_of matches.now))
+        (λ _. IsWatchedBeside H.alerted (settings_in CAPTURE_END (found_of matches.now))
+        (R.remaining reader.old) result.0 watch.old watch.new) }
     ensures unread { IfErr (settings_in CAPTURE_END (found_of matches.now))
         (λ _. reader.new ≡ reader.old) }
 {
@@ -47,9 +53,19 @@ fn frames_of_capture<F: Files, B: Allocator, R: Read, W: Write + Drop, E: Errors
         Ok(settings) => settings,
         Err(value) => return end_with_value(value, answers, errors),
     };
+    let form = match form_given(matches) {
+        Ok(form) => form,
+        Err(bad) => return end_unformed(bad, answers, errors),
+    };
     match open(files, path) {
         Ok(capture) => {
-            answer_frames_of_capture(alloc, settings, capture, reader, answers, errors, watch)
+            let mut turned = None;
+            let capture = classic_reader(alloc, capture, form, &mut turned);
+            let ended = answer_frames_of_capture(
+                alloc, settings, capture, reader, answers, errors, watch,
+            );
+            noted.take_capture(&turned);
+            ended
         }
         Err(path) => end_unopened(path, answers, errors),
     }
@@ -104,6 +120,7 @@ pub fn frames_given<F: Files, B: Allocator, R: Read, W: Write + Drop, E: Errors,
     answers: BufWriter<W, B>,
     errors: &mut E,
     watch: &mut H,
+    noted: &mut Noted,
 ) -> (Ended, W)
     ensures ending { IsGivenFrames (found_of matches.now)
         (first_value (found_of matches.now) (codes "capture"))
@@ -120,7 +137,7 @@ pub fn frames_given<F: Files, B: Allocator, R: Read, W: Write + Drop, E: Errors,
     match matches.get_str("capture") {
         None => frames_of_script(files, alloc, matches, reader, answers, errors, watch),
         Some(path) => frames_of_capture(
-            files, alloc, matches, path, reader, answers, errors, watch,
+            files, alloc, matches, path, reader, answers, errors, watch, noted,
         ),
     }
 }

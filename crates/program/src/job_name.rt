@@ -24,6 +24,8 @@ pub(crate) enum JobName {
     Draw,
     /// Writes a table of frames.
     Frames,
+    /// Compares two captures or tables.
+    Compare,
 }
 
 impl JobName {
@@ -41,6 +43,7 @@ impl JobName {
             JobName::Plan => "plan",
             JobName::Draw => "draw",
             JobName::Frames => "frames",
+            JobName::Compare => "compare",
         }
     }
 }

@@ -1,17 +1,22 @@
 //! Who watches a run for the program: what it finds is reported on standard error, and is counted where the run is
 //! strict.
 
+use crate::devices::{Named, named_in};
+use crate::early::Openness;
 use crate::job_name::JobName;
+use crate::plain_input::PassedOver;
 use crate::progress::Progress;
 use crate::stream_ids::{StreamIds, ids_of};
 use abstract_port::{Change, Command, Dropped};
 use arrayvec::ArrayVec;
 use hints::{
-    put_basis, put_busy_class, put_comment, put_end_without, put_failure, put_fault_hint,
-    put_frame_dropped, put_frames_left, put_linux, put_missed, put_no_command, put_no_frame,
-    put_none_judged, put_open_port, put_shared_ids,
+    put_basis, put_block_fault, put_busy_class, put_comment, put_devices, put_early,
+    put_end_without, put_failure, put_fault_hint, put_frame_dropped, put_frames_left, put_linux,
+    put_missed, put_no_command, put_no_frame, put_none_judged, put_open_port, put_others,
+    put_passed, put_rounded, put_shared_ids,
 };
 use job::{CaptureKind, Ended, Errors, FaultKind};
+use pcapng::BlockFault;
 use script::{Basis, Failure, Missed, Watch, read_tc};
 use std::alloc::Global;
 use std::io::{self, Write};
@@ -128,6 +133,9 @@ pub(crate) struct Onlooker<'a, 'b, C: Clock, P: Write + Drop, E: Write> {
     failures: u32,
     comments: u32,
     schedule: Option<u32>,
+    device: Option<Named>,
+    has_devices: bool,
+    openness: Openness,
     found: bool,
     has_frames: bool,
     came: bool,
@@ -160,6 +168,9 @@ impl<'a, 'b, C: Clock, P: Write + Drop, E: Write> Onlooker<'a, 'b, C, P, E> {
             failures: 0,
             comments: 0,
             schedule: None,
+            device: None,
+            has_devices: false,
+            openness: Openness::new(),
             found: false,
             has_frames: false,
             came: false,
@@ -195,7 +206,8 @@ impl<'a, 'b, C: Clock, P: Write + Drop, E: Write> Onlooker<'a, 'b, C, P, E> {
     }
 
     /// Warns where a job has answered all, which ended like this, and there was nothing for it to look at: no command, no
-    /// frame, or no frame with a deadline. A check without a command has written nothing.
+    /// frame, no frame with a deadline, or frames that came before a schedule was in force. A check without a command has
+    /// written nothing.
     pub fn warn_of_nothing(&mut self, name: JobName, ended: Ended, is_written: bool)
         ensures kept { self.old.found ≡ true → self.new.found ≡ true }
         ensures same { may_find_nothing name self.old.looks.frames self.old.has_deadlines ≡ false →
@@ -205,15 +217,26 @@ impl<'a, 'b, C: Clock, P: Write + Drop, E: Write> Onlooker<'a, 'b, C, P, E> {
             return;
         }
         match name {
-            JobName::Script | JobName::Replay => self.warn_of_no_frame(),
-            JobName::Frames => self.warn_of_none_judged(),
+            JobName::Script => {
+                let counts = self.looks.frames;
+                self.warn_of_no_frame();
+                self.warn_of_early(counts);
+            }
+            JobName::Replay => {
+                self.warn_of_no_frame();
+                self.warn_of_early(true);
+            }
+            JobName::Frames => {
+                self.warn_of_none_judged();
+                self.warn_of_early(false);
+            }
             JobName::Check => {
                 if !is_written {
                     self.warn_of_no_command();
                 }
             }
             JobName::Streams | JobName::Bounds | JobName::Paths => {}
-            JobName::Plan | JobName::Draw => {}
+            JobName::Plan | JobName::Draw | JobName::Compare => {}
         }
     }
 
@@ -240,6 +263,51 @@ impl<'a, 'b, C: Clock, P: Write + Drop, E: Write> Onlooker<'a, 'b, C, P, E> {
         self.found = true;
         let _ = put_no_frame(self.errors);
         let _ = self.errors.flush();
+    }
+
+    /// Warns of frames that came before the first command was in force, where that is wanted. It is a finding where that
+    /// counts, and the run says nothing of the schedule.
+    fn warn_of_early(&mut self, counts: bool)
+        ensures kept { self.old.found ≡ true → self.new.found ≡ true }
+        ensures same { counts ≡ false → self.new.found ≡ self.old.found }
+    {
+        let Some(early) = self.openness.early() else {
+            return;
+        };
+        let found = counts && self.openness.is_of_no_use();
+        if !self.looks.explain && !(self.looks.strict && found) {
+            return;
+        }
+        self.found |= found;
+        let _ = put_early(self.errors, &early, self.looks.explain);
+        let _ = self.errors.flush();
+    }
+
+    /// Looks at the device of a command that a port is given. Where the first one named another, that is explained once.
+    fn look_at_device(&mut self, number: u32, line: &[u8])
+        ensures looks { self.new.looks ≡ self.old.looks }
+        ensures found { self.new.found ≡ self.old.found }
+        ensures timed { self.new.has_deadlines ≡ self.old.has_deadlines }
+    {
+        if !self.looks.explain || self.has_devices {
+            return;
+        }
+        let Some(later) = named_in(number, line) else {
+            return;
+        };
+        let Some(earlier) = &self.device else {
+            self.device = Some(later);
+            return;
+        };
+        if earlier.name.as_slice() != later.name.as_slice() {
+            self.has_devices = true;
+            let _ = put_devices(
+                self.errors,
+                (earlier.number, earlier.name.as_slice()),
+                (later.number, later.name.as_slice()),
+            );
+            let _ = self.errors.flush();
+        }
     }
 
     /// Warns where streams that were read have deadlines, and no frame was judged by one, where that is wanted.
@@ -297,6 +365,40 @@ impl<'a, 'b, C: Clock, P: Write + Drop, E: Write> Onlooker<'a, 'b, C, P, E> {
         }
         let _ = self.errors.flush();
     }
+
+    /// Reports a fault that is one of this block of a capture in pcapng, and what helps with it, where that is wanted. The
+    /// text of the fault stands before it where it says which of two captures it is.
+    pub fn report_block(&mut self, fault: &FaultText, block: &BlockFault, is_of_two: bool)
+        ensures { self.new.found ≡ self.old.found }
+    {
+        let is_of_block = fault.kind == Some(FaultKind::Capture(CaptureKind::ShortRecord));
+        if is_of_two || !is_of_block {
+            let _ = put(self.errors, fault.text.as_slice());
+        }
+        if is_of_block {
+            let _ = put_block_fault(self.errors, block, self.looks.explain);
+        }
+        let _ = self.errors.flush();
+    }
+
+    /// Tells how many packets of a capture came at a moment that is no whole number of nanoseconds, where that is wanted.
+    pub fn tell_rounded(&mut self, rounded: u64)
+        ensures { self.new.found ≡ self.old.found }
+    {
+        if rounded > 0 && self.looks.explain {
+            let _ = put_rounded(self.errors, rounded);
+            let _ = self.errors.flush();
+        }
+    }
+
+    /// Tells what was passed over in the lines of a script.
+    pub fn tell_passed(&mut self, passed: &PassedOver)
+        ensures { self.new.found ≡ self.old.found }
+    {
+        let _ = put_passed(self.errors, &passed.pasted);
+        let _ = put_others(self.errors, &passed.others);
+        let _ = self.errors.flush();
+    }
 }
 
 impl<C: Clock, P: Write + Drop, E: Write> Watch for Onlooker<'_, '_, C, P, E> {
@@ -308,10 +410,22 @@ impl<C: Clock, P: Write + Drop, E: Write> Watch for Onlooker<'_, '_, C, P, E> {
 
     #[inline(always)]
     fn records_taken(&mut self, records: u32, moment: u128) {
+        self.openness.come(moment);
         self.progress.records_taken(records, moment);
     }
 
+    fn command_taken(&mut self, number: u32, line: &[u8], change: u128) {
+        self.openness.begin(change);
+        self.look_at_device(number, line);
+    }
+
+    #[inline(always)]
+    fn frame_came(&mut self, moment: u128) {
+        self.openness.come(moment);
+    }
+
     fn command_failed(&mut self, number: u32, line: &[u8], why: Failure) {
+        self.look_at_device(number, line);
         let explain = self.looks.explain && self.failures < EXPLAINED;
         let told = explain || (self.looks.strict && self.failures == 0);
         self.failures = self.failures.saturating_add(1);

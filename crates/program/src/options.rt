@@ -25,7 +25,7 @@ use traffic::StreamsWords;
 pub(crate) fn reads_input(words: &[String]) -> bool {
     let mut words = words.iter().skip(1).map(|word| word.as_str());
     let waits = match words.next() {
-        Some("replay" | "plan") => false,
+        Some("replay" | "plan" | "compare") => false,
         Some(name) => JOBS.iter().any(|job| job.name.text() == name),
         None => false,
     };
@@ -238,6 +238,70 @@ const SHIFT: Word = Word {
     name: "shift",
     value: "TIME",
     help: "Add this time to the moment of each record, such as 5us; one that is taken off has - in front: --shift=-37s",
+    without: None,
+};
+
+const FORMAT: Word = Word {
+    given: Given::Value,
+    name: "format",
+    value: "FORMAT",
+    help: "How the capture is written: pcap, pcapng, or auto, which looks at its first octets [default: pcap]",
+    without: None,
+};
+
+const FCS: Word = Word {
+    given: Given::Value,
+    name: "fcs",
+    value: "WORD",
+    help: "Whether the frames of the capture have their check sequence, 4 octets each: absent or present [default: absent]",
+    without: None,
+};
+
+const BY: Word = Word {
+    given: Given::Value,
+    name: "by",
+    value: "WORD",
+    help: "Which frames are compared: order, the n-th with the n-th; id, or payload [default: order]",
+    without: None,
+};
+
+const WITHIN: Word = Word {
+    given: Given::Value,
+    name: "within",
+    value: "TIME",
+    help: "End with status 1 where moments differ by more, such as 1us, a frame has no partner, or there is no pair",
+    without: None,
+};
+
+const FIRST: Word = Word {
+    given: Given::File,
+    name: "first",
+    value: "A",
+    help: "A file with a capture, or with a table as frames writes it",
+    without: None,
+};
+
+const SECOND: Word = Word {
+    given: Given::File,
+    name: "second",
+    value: "B",
+    help: "The file that it is compared with",
+    without: None,
+};
+
+const TOLERANT: Word = Word {
+    given: Given::Flag,
+    name: "tolerant",
+    value: "",
+    help: "Read tc lines as they are pasted: pass over prompts, sudo, paths of tc, quotes and semicolons, and say so",
+    without: None,
+};
+
+const OF_DEVICE: Word = Word {
+    given: Given::Value,
+    name: "device",
+    value: "NAME",
+    help: "Take the tc lines of this device alone, and pass over those of others",
     without: None,
 };
 
@@ -570,7 +634,7 @@ const WIDTH: Word = Word {
     without: None,
 };
 
-pub(crate) const JOBS: [Job; 9] = [
+pub(crate) const JOBS: [Job; 10] = [
     Job {
         name: JobName::Script,
         about: "Answers the lines of a script on standard input",
@@ -579,6 +643,8 @@ pub(crate) const JOBS: [Job; 9] = [
             MTU,
             ROOM,
             UNTIL,
+            TOLERANT,
+            OF_DEVICE,
             SUMMARY,
             STRICT_COMMANDS,
             STRICT_FRAMES,
@@ -595,6 +661,10 @@ pub(crate) const JOBS: [Job; 9] = [
             UNTIL_AFTER_BOTH,
             STAMP,
             SHIFT,
+            FORMAT,
+            FCS,
+            TOLERANT,
+            OF_DEVICE,
             SUMMARY,
             PROGRESS,
             STRICT_COMMANDS,
@@ -616,6 +686,8 @@ pub(crate) const JOBS: [Job; 9] = [
             WINDOWS,
             FRAME,
             SCRIPT_LINES,
+            TOLERANT,
+            OF_DEVICE,
             STRICT_CHECK,
             EXPLAIN,
         ],
@@ -637,7 +709,8 @@ pub(crate) const JOBS: [Job; 9] = [
         name: JobName::Bounds,
         about: "Reports how long the frames of the streams in a table can ever wait, by the schedule commands on standard input",
         words: &[
-            RATE, MTU, ROOM, MAP, FRAMES, SILENT, LEFTOVERS, SLACK, WHY, STRICT, EXPLAIN, TABLE,
+            RATE, MTU, ROOM, MAP, FRAMES, SILENT, LEFTOVERS, SLACK, WHY, TOLERANT, OF_DEVICE,
+            STRICT, EXPLAIN, TABLE,
         ],
     },
     Job {
@@ -651,6 +724,7 @@ pub(crate) const JOBS: [Job; 9] = [
             SILENT,
             LEFTOVERS,
             NEXT,
+            TOLERANT,
             STRICT_PATHS,
             EXPLAIN,
             NETWORK,
@@ -684,6 +758,8 @@ pub(crate) const JOBS: [Job; 9] = [
             FROM,
             TO,
             WIDTH,
+            TOLERANT,
+            OF_DEVICE,
             STRICT_COMMANDS,
             EXPLAIN,
         ],
@@ -697,10 +773,19 @@ pub(crate) const JOBS: [Job; 9] = [
             ROOM,
             UNTIL,
             CAPTURE_OF_FRAMES,
+            FORMAT,
+            FCS,
             BY_STREAM,
+            TOLERANT,
+            OF_DEVICE,
             STRICT_COMMANDS,
             EXPLAIN,
         ],
+    },
+    Job {
+        name: JobName::Compare,
+        about: "Compares two captures, or two tables of frames, frame by frame",
+        words: &[BY, WITHIN, EXPLAIN, FIRST, SECOND],
     },
 ];
 

@@ -1,9 +1,10 @@
 //! A script and a capture from files through the port.
 
-ghost use Rattle.std.specs.Prelude.{◌≡◌, IfErr, IfOk, None, OnOk, Some, [], codes, option_map, unwrap_or};
+ghost use Rattle.std.specs.Prelude.{◌≡◌, IfErr, IfOk, None, OnOk, Some, [], codes, false, option_map, true, unwrap_or};
 ghost use Rattle.text.specs.Buffered.{writer_contents};
 ghost use Rattle.clap.specs.Matches.{first_value, found_of};
 ghost use Rattle.program.specs.Given.{memory_text, over_input_text, settings_in, timing_in};
+ghost use Rattle.program.specs.Reading.{read_as};
 ghost use Rattle.program.specs.Jobs.{IsGivenReplay, IsReplayed, IsReplayedOrForgotten};
 ghost use Rattle.capture.specs.declared.writer.TheConstants.{CAPTURE_END};
 ghost use Rattle.job.specs.RunEnd.{IsUnanswered};
@@ -12,14 +13,18 @@ ghost use Rattle.script.specs.ScriptEnd.{IsRefusal};
 ghost use Rattle.replay.specs.Texts.{open_text};
 ghost use Rattle.replay.specs.Timing.{timing_text};
 
+use crate::capture_input::{CaptureForm, classic_reader, end_unformed, form_given};
+use crate::noted::Noted;
 use crate::onlooker::FaultText;
-use crate::options::values_of;
+use crate::options::{is_given, value_of, values_of};
+use crate::plain_input::plain_reader;
 use crate::same_file::{is_regular, is_same_file};
 use crate::{BUFFER, end_without_memory};
 use arrayvec::ArrayVec;
 use capture::CAPTURE_END;
 use clap::ArgMatches;
 use job::{Ended, Errors, FaultKind, ValueKind, end_told};
+use pcapng::CaptureFormat;
 use port_text::answer_text::{Part, put_parts};
 use replay::{
     BadTiming, Inputs, Outputs, Timing, answer_replay, say_timing, say_unopened, timing_given,
@@ -275,6 +280,84 @@ fn replay_files<
     (ended, writer)
 }
 
+/// How the inputs of a replay are read.
+#[derive(Clone, Copy)]
+struct Reading<'a> {
+    /// How the capture is written.
+    form: CaptureForm,
+    /// Whether the lines of the script are read as they are pasted.
+    tolerant: bool,
+    /// The device whose lines of the script are read, where one is named.
+    device: Option<&'a str>,
+}
+
+/// Whether a capture is a classic one without check sequences.
+fn is_classic(form: CaptureForm) -> bool
+    ensures format { result ≡ true → form.format ≡ CaptureFormat.Pcap }
+    ensures fcs { result ≡ true → form.has_fcs ≡ false }
+{
+    if form.has_fcs {
+        return false;
+    }
+    match form.format {
+        CaptureFormat::Pcap => true,
+        _ => false,
+    }
+}
+
+impl Reading<'_> {
+    /// Whether both are read as they stand.
+    fn is_plain(&self) -> bool
+        ensures format { result ≡ true → self.now.form.format ≡ CaptureFormat.Pcap }
+        ensures fcs { result ≡ true → self.now.form.has_fcs ≡ false }
+    {
+        !self.tolerant && self.device.is_none() && is_classic(self.form)
+    }
+}
+
+/// Replays these inputs as they are to be read, notes what was met in them, and gives the writer of the report back.
+fn replay_as<
+    T: Read + Drop,
+    S: Read + Drop,
+    B: Allocator,
+    W: Write + Drop,
+    V: Write + Drop,
+    E: Errors,
+    P: Watch,
+>(
+    alloc: Global,
+    settings: Settings,
+    timing: Timing,
+    reading: Reading<'_>,
+    inputs: Inputs<T, S>,
+    report: BufWriter<W, B>,
+    departures: BufWriter<V>,
+    errors: &mut E,
+    watch: &mut P,
+    noted: &mut Noted,
+) -> (Ended, W)
+    ensures { IsReplayed settings timing (read_as reading.entry.form (S.remaining inputs.capture))
+        result.0 (writer_contents W.contents report) (W.contents result.1) (E.contents errors.old)
+        (E.contents errors.new) }
+{
+    if reading.is_plain() {
+        return replay_files(
+            alloc, settings, timing, inputs, report, departures, errors, watch,
+        );
+    }
+    let Inputs { script, capture } = inputs;
+    let passed = &mut noted.passed;
+    let script = plain_reader(alloc, script, reading.tolerant, reading.device, passed);
+    let mut turned = None;
+    let capture = classic_reader(alloc, capture, reading.form, &mut turned);
+    let inputs = Inputs { script, capture };
+    let ended = replay_files(
+        alloc, settings, timing, inputs, report, departures, errors, watch,
+    );
+    noted.take_capture(&turned);
+    ended
+}
+
 /// Replays what is open, the capture from `reader` where that is the standard input.
 fn replay_opened<
     T: Read + Write + Drop,
@@ -287,13 +370,15 @@ fn replay_opened<
     alloc: Global,
     settings: Settings,
     timing: Timing,
+    reading: Reading<'_>,
     opened: Opened<T>,
     reader: &mut R,
     answers: BufWriter<W, B>,
     errors: &mut E,
     watch: &mut P,
+    noted: &mut Noted,
 ) -> (Ended, W)
-    ensures { IsReplayedOrForgotten settings timing (option_map T.remaining opened.capture)
+    ensures { IsReplayedOrForgotten settings timing reading.entry.form (option_map T.remaining opened.capture)
         (R.remaining reader.old) result.0 (writer_contents W.contents answers) (W.contents result.1)
         (E.contents errors.old) (E.contents errors.new) }
 {
@@ -308,8 +393,8 @@ fn replay_opened<
     match capture {
         Some(capture) => {
             let inputs = Inputs { script, capture };
-            replay_files(
-                alloc, settings, timing, inputs, answers, departures, errors, watch,
+            replay_as(
+                alloc, settings, timing, reading, inputs, answers, departures, errors, watch, noted,
             )
         }
         None => {
@@ -317,8 +402,8 @@ fn replay_opened<
                 script,
                 capture: reader,
             };
-            replay_files(
-                alloc, settings, timing, inputs, answers, departures, errors, watch,
+            replay_as(
+                alloc, settings, timing, reading, inputs, answers, departures, errors, watch, noted,
             )
         }
     }
@@ -336,6 +421,7 @@ pub fn replay_given<F: Files, B: Allocator, R: Read, W: Write + Drop, E: Errors,
     answers: BufWriter<W, B>,
     errors: &mut E,
     watch: &mut P,
+    noted: &mut Noted,
 ) -> (Ended, W)
     ensures refused { IfErr (settings_in CAPTURE_END (found_of matches.now))
         (λ value. IsRefusal value result.0 (writer_contents W.contents answers)
@@ -358,9 +444,18 @@ pub fn replay_given<F: Files, B: Allocator, R: Read, W: Write + Drop, E: Errors,
         Ok(timing) => timing,
         Err(bad) => return end_untimed(bad, answers, errors),
     };
+    let form = match form_given(matches) {
+        Ok(form) => form,
+        Err(bad) => return end_unformed(bad, answers, errors),
+    };
+    let reading = Reading {
+        form,
+        tolerant: is_given(matches, "tolerant"),
+        device: value_of(matches, "device"),
+    };
     match open_all(files, matches) {
         Ok(opened) => replay_opened(
-            alloc, settings, timing, opened, reader, answers, errors, watch,
+            alloc, settings, timing, reading, opened, reader, answers, errors, watch, noted,
         ),
         Err(Unopened::Path(path)) => end_unopened(path, answers, errors),
         Err(Unopened::Input(path)) => end_over_input(path, answers, errors),

@@ -33,15 +33,6 @@ pub one_noted : (now : ℕ) (event : Event) (p : AbstractPort) (o : Option Obser
 one_noted now event p (Some o) answer at one = ap (λ n. Some (seen n answer o)) at ∙ ap (λ answers. Some (seen_all p.now answers o)) one
 one_noted now event p None answer at one = refl
 
-unseen : (now : ℕ) (r : Result ℕ Refused) (o : Observed) → o ≡ seen now (command_answer r) o
-unseen now (Ok change) o = refl
-unseen now (Err why) o = refl
-
--- nothing is seen of a command
-pub command_unseen : (command : Bor Command) (p : AbstractPort) (o : Option Observed) → o ≡ noted_at (Install command) p o
-command_unseen command p (Some o) = ap Some (unseen p.now (installs p command.now).0 o)
-command_unseen command p None = refl
-
 -- a fault's line is all that is written of it
 pub fault_written : {T E : Type 0} (r : Result T E) (old new : Option (List ℕ)) (fault : TcFault) (p : AbstractPort) → Writes r old new (tc_fault_line fault) → Writes r old new (lines_of (responses_to (NoCommand fault) p).0)
 fault_written r old new fault p w = subst (λ text. Writes r old new text) (sym (append-nil (tc_fault_line fault))) w

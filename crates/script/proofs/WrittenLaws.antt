@@ -45,8 +45,3 @@ module _ {S W : Type 0} (summary : S → Option Observed) (contents : W → Opti
 pub unseen : (now : ℕ) (answer : Answer) → ((s : Observed) → s ≡ seen now answer s) → (o : Option Observed) → o ≡ noted now answer o
 unseen now answer same (Some s) = ap Some (same s)
 unseen now answer same None = refl
-
--- nor of a command
-pub unseen_command : (now : ℕ) (r : Result ℕ Refused) (o : Option Observed) → o ≡ noted now (command_answer r) o
-unseen_command now (Ok change) o = unseen now (command_answer (Ok change)) (λ s. refl) o
-unseen_command now (Err why) o = unseen now (command_answer (Err why)) (λ s. refl) o

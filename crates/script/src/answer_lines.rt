@@ -13,7 +13,7 @@ use port_text::answer_text::{
 use port_text::tc_reader::TcFault;
 use std::alloc::Allocator;
 use std::io::Write;
-use summary::{Summary, note_start, note_verdict};
+use summary::{Summary, note_installation, note_start, note_verdict};
 use text::octet_writer::PutLine;
 use wire_time::Frame;
 
@@ -89,11 +89,12 @@ impl<A: Allocator, W: PutLine> Observer<W> for AnswerLines<A> {
 
     fn command_given(
         &mut self,
-        _now: u128,
+        now: u128,
         _command: &Command,
         answer: Result<u128, Refused>,
         out: &mut W,
     ) -> Result<(), Halt> {
+        note_installation(&mut self.summary, now, answer);
         halted(put_installation(out, answer))
     }
 

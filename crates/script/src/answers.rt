@@ -6,8 +6,8 @@ ghost use Rattle.script.specs.Words.{queue_of, IsSoundPort, Command, Writes, Has
 ghost use Rattle.abstract_port.specs.declared.Event.TheVariants as Events;
 
 use crate::script_line::read_tc_into;
-use crate::watch::{Failure, Watch};
-use abstract_port::{Command, Dropped, Event, Refused};
+use crate::watch::{Failure, Watch, tell_command};
+use abstract_port::{Command, Dropped, Event};
 use jumping::Jumping;
 use port::Port;
 use port_text::answer_text::{
@@ -17,7 +17,7 @@ use port_text::answer_text::{
 use port_text::tc_reader::{CommandPlace, TcFault};
 use std::alloc::Allocator;
 use std::io::Write;
-use summary::{Summary, note_start, note_verdict};
+use summary::{Summary, note_installation, note_start, note_verdict};
 use text::octet_writer::PutLine;
 use wire_time::{CLASSES, Frame, MAX_MOMENT};
 
@@ -73,15 +73,8 @@ fn put_each_start<A: Allocator, W: PutLine>(
     Ok(())
 }
 
-/// Calls who watches where the command of the line of this number is refused.
-fn tell_refusal<H: Watch>(watch: &mut H, number: u32, line: &[u8], answer: Result<u128, Refused>) {
-    if let Err(why) = answer {
-        watch.command_failed(number, line, Failure::Refused(why));
-    }
-}
-
-/// Gives the command of the line of this number to the port, and writes the answer. Who watches is called where it is
-/// refused.
+/// Gives the command of the line of this number to the port, and writes the answer, noted where a summary is wanted. Who
+/// watches is called for it.
 fn put_install<A: Allocator, W: PutLine, H: Watch>(
     port: &mut RunningPort<A>,
     summary: &mut Option<Summary<A>>,
@@ -94,10 +87,10 @@ fn put_install<A: Allocator, W: PutLine, H: Watch>(
     ensures { IsAnswered (Asks (Events.Install command.entry)) result (W.contents writer.old)
         (W.contents writer.new) port.old port.new summary.old summary.new }
 {
-    // For the prover: a call on a port says what holds of every port.
-    let _now = port.now();
+    let now = port.now();
     let answer = port.install(command);
-    tell_refusal(watch, number, line, answer);
+    note_installation(summary, now, answer);
+    tell_command(watch, number, line, answer);
     put_installation(writer, answer)
 }
 

@@ -31,4 +31,4 @@ pub use script_run::run_script;
 pub use script_walk::{take, take_tc, walk, walk_on};
 pub use settings::{BadValue, Settings};
 pub use summary_lines::put_end;
-pub use watch::{Basis, Failure, Missed, Sharers, Shares, Unwatched, Watch};
+pub use watch::{Basis, Failure, Missed, Sharers, Shares, Unwatched, Watch, tell_command};

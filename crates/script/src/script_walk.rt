@@ -14,9 +14,9 @@ use crate::faults::{BadLine, RunFault};
 use crate::observer::Observer;
 use crate::plain::{Expected, command_in_hand, front_line};
 use crate::script_line::{Said, read_line, read_tc_into};
-use crate::watch::{Failure, Watch};
+use crate::watch::{Failure, Watch, tell_command};
 use abstract_port::separation::settling;
-use abstract_port::{Command, Event, Refused};
+use abstract_port::{Command, Event};
 use job::Halt;
 use port_text::tc_reader::{CommandPlace, TcFault};
 use std::alloc::Allocator;
@@ -24,7 +24,7 @@ use std::io::Read;
 use text::line_reader::LineReader;
 use wire_time::{CLASSES, Frame, MAX_MOMENT};
 
-/// Takes a frame that comes. Who watches is called where it is dropped.
+/// Takes a frame that comes. Who watches is called where it is queued, and where it is dropped.
 #[inline(always)]
 fn take_frame<A: Allocator, W, O: Observer<W>, H: Watch>(
     port: &mut RunningPort<A>,
@@ -41,7 +41,10 @@ fn take_frame<A: Allocator, W, O: Observer<W>, H: Watch>(
 {
     let now = port.now();
     match port.arrive(*frame) {
-        Ok(class) => observer.frame_queued(now, frame, class, out),
+        Ok(class) => {
+            watch.frame_came(now);
+            observer.frame_queued(now, frame, class, out)
+        }
         Err(why) => {
             watch.frame_dropped(now, frame, why);
             let class = port.class_for(frame.priority);
@@ -139,16 +142,7 @@ fn take_count<A: Allocator, W, O: Observer<W>>(
     observer.count_asked(now, class, &port.counters(class), out)
 }
 
-/// Calls who watches where the command of the line of this number is refused.
-fn tell_refusal<H: Watch>(watch: &mut H, number: u32, line: &[u8], answer: Result<u128, Refused>)
-    ensures { H.alerted (refused_alert answer) watch.old watch.new }
-{
-    if let Err(why) = answer {
-        watch.command_failed(number, line, Failure::Refused(why));
-    }
-}
-
-/// Gives the command of the line of this number to the port. Who watches is called where it is refused.
+/// Gives the command of the line of this number to the port. Who watches is called for it.
 fn take_command<A: Allocator, W, O: Observer<W>, H: Watch>(
     port: &mut RunningPort<A>,
     observer: &mut O,
@@ -167,7 +161,7 @@ fn take_command<A: Allocator, W, O: Observer<W>, H: Watch>(
 {
     let now = port.now();
     let answer = port.install(command);
-    tell_refusal(watch, number, line, answer);
+    tell_command(watch, number, line, answer);
     observer.command_given(now, command, answer, out)
 }
 

@@ -1,7 +1,7 @@
 //! Who watches a run.
 
 ghost use Rattle.std.specs.Prelude.{◌∷◌, ◌++◌, [], List};
-ghost use Rattle.script.specs.Alerts.{Alert, Failed, Judged, Left, Lost, Passed, Stream};
+ghost use Rattle.script.specs.Alerts.{Alert, Failed, Judged, Left, Lost, Passed, Stream, refused_alert};
 
 use abstract_port::{Change, Command, Dropped, Refused};
 use port_text::tc_reader::TcFault;
@@ -89,6 +89,15 @@ pub trait Watch {
     fn command_failed(&mut self, number: u32, line: &[u8], why: Failure)
         ensures { alerted (Failed why ∷ []) self.old self.new };
 
+    /// The command of the line of this number, whose text this is, is accepted by a port that runs, and comes into force at
+    /// this moment, in picoseconds.
+    fn command_taken(&mut self, number: u32, line: &[u8], change: u128)
+        ensures { alerted [] self.old self.new };
+
+    /// A frame of a script comes at this moment, in picoseconds, and is queued.
+    fn frame_came(&mut self, moment: u128)
+        ensures { alerted [] self.old self.new };
+
     /// The line of this number, whose text this is, is judged by itself, and is this command.
     fn command_read(&mut self, number: u32, line: &[u8], command: &Command)
         ensures { alerted [] self.old self.new };
@@ -171,6 +180,10 @@ impl Watch for Unwatched {
 
     fn command_failed(&mut self, _number: u32, _line: &[u8], _why: Failure) {}
 
+    fn command_taken(&mut self, _number: u32, _line: &[u8], _change: u128) {}
+
+    fn frame_came(&mut self, _moment: u128) {}
+
     fn command_read(&mut self, _number: u32, _line: &[u8], _command: &Command) {}
 
     fn frame_dropped(&mut self, _moment: u128, _frame: &Frame, _why: Dropped) {}
@@ -200,4 +213,19 @@ impl Watch for Unwatched {
     ghost nothing = { λ s. tt };
 
     ghost both = { λ xs ys s t u a b. tt };
+}
+
+/// Calls who watches for the command of the line of this number: it is accepted, or refused.
+pub fn tell_command<H: Watch>(
+    watch: &mut H,
+    number: u32,
+    line: &[u8],
+    answer: Result<u128, Refused>,
+)
+    ensures { H.alerted (refused_alert answer) watch.old watch.new }
+{
+    match answer {
+        Ok(change) => watch.command_taken(number, line, change),
+        Err(why) => watch.command_failed(number, line, Failure::Refused(why)),
+    }
 }

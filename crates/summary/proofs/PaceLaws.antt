@@ -196,9 +196,18 @@ starts (suc n) upto now p o few i = go (next_start p upto).0 refl (starts n upto
 
 -- ---- events
 
+-- a command that comes into force changes nothing of what is seen of the classes
+same_classes : (p : AbstractPort) (o x : Observed) → x.classes ≡ o.classes → InPace p o → InPace p x
+same_classes p o x classes i = record {
+  queues = i.queues;
+  classes = ap (λ cs. length cs) classes ∙ i.classes;
+  pace = λ class less. ap (λ cs. length (class_at cs class).arrivals) classes ∙ i.pace class less;
+  rooms = λ class less. ap (λ cs. (class_at cs class).room) classes ∙ i.rooms class less;
+}
+
 commanded : (p : AbstractPort) (o : Observed) (command : Command) (r : Option Refused) → InPace p o → InPace (installs_by r p command).1 (seen_all p.now (command_answer (installs_by r p command).0 ∷ []) o)
-commanded p o Delete None i = same_queues p (installs_by None p Delete).1 o refl refl i
-commanded p o (Replace c) None i = same_queues p (installs_by None p (Replace c)).1 o refl refl i
+commanded p o Delete None i = let q = (installs_by None p Delete).1 in same_classes q o _ refl (same_queues p q o refl refl i)
+commanded p o (Replace c) None i = let q = (installs_by None p (Replace c)).1 in same_classes q o _ refl (same_queues p q o refl refl i)
 commanded p o command (Some r) i = i
 
 clocked : (b : Bool) (m : ℕ) (p : AbstractPort) (o : Observed) → InPace p o → InPace (clock_by b m p).1 (seen_all p.now (clock_by b m p).0 o)

@@ -60,15 +60,24 @@ wire_line busy now first = concat (
     ∷ codes " ppm " ∷ decimal (share_of busy (time_since first now))
     ∷ codes "\n" ∷ [])
 
--- the line of the wire, by what is seen
+-- how many frames were queued before the change moment of the first command: all gates were open for them
+abbrev pub open_line : ℕ → ℕ → List ℕ
+open_line early change = concat (codes "summary open " ∷ decimal early ∷ codes " frames before " ∷ decimal change ∷ codes "\n" ∷ [])
+
+-- no line where no command was accepted, or no frame was queued before it came into force
+abbrev pub open_text : ℕ → Option ℕ → List ℕ
+open_text early None = []
+open_text early (Some change) = if early == 0 then [] else open_line early change
+
+-- the line of the wire, by what is seen, and then that of the frames for which all gates were open
 abbrev pub wire_text : ℕ → Observed → List ℕ
-wire_text now o = wire_line (busy_by now o) now o.first
+wire_text now o = wire_line (busy_by now o) now o.first ++ open_text o.early o.change
 
 -- the lines of so many classes from one on, of a port of which this is seen
 unfoldable pub classes_from : ℕ → ℕ → AbstractPort → Observed → List ℕ
 classes_from zero class p o = []
 classes_from (suc n) class p o = class_text class (counters_of p class) (class_at o.classes class) ++ classes_from n (class + 1) p o
 
--- the lines of the classes that had frames, in rising order, and then that of the wire, up to the port's moment
+-- the lines of the classes that had frames, in rising order, and then those of the wire and of open gates, up to the port's moment
 abbrev pub summary_lines : AbstractPort → Observed → List ℕ
 summary_lines p o = classes_from 8 0 p o ++ wire_text p.now o

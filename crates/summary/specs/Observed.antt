@@ -1,6 +1,6 @@
 -- What is seen of a run, answer by answer: how long frames wait, and how long the wire is busy. Moments and durations are in
 -- picoseconds.
-use Rattle.std.specs.Prelude.{ℕ, ◌+◌, ◌-◌, ◌^◌, ◌==◌, ◌/◌, nat_lt, min, max, List, [], ◌∷◌, ◌++◌, length, Option, Some, None, slice_set, slice_index_or, if◌then◌else◌}
+use Rattle.std.specs.Prelude.{ℕ, ◌+◌, ◌-◌, ◌^◌, ◌==◌, ◌/◌, nat_lt, min, max, List, [], ◌∷◌, ◌++◌, length, Option, Some, None, Bool, true, false, slice_set, slice_index_or, if◌then◌else◌}
 use Rattle.abstract_port.specs.Eight.{eight}
 use Rattle.abstract_port.specs.AbstractPort.{AbstractPort}
 use Rattle.abstract_port.specs.Answers.{answers_to}
@@ -69,13 +69,15 @@ with_start at c = starts_first at c.arrivals c
 
 -- 3. A port
 
--- what is seen of each class; for how long some frame has had the wire; the moment from which it is free; and the moment at which the first
--- frame was queued, if one was
+-- what is seen of each class; for how long some frame has had the wire; the moment from which it is free; the moment at which the first
+-- frame was queued, if one was; the change moment of the first command that was accepted, if one was; and how many frames were queued before that
 pub record Observed : Type 0 where
   pub classes : List ClassSeen
   pub busy : ℕ
   pub free : ℕ
   pub first : Option ℕ
+  pub change : Option ℕ
+  pub early : ℕ
 
 -- nothing, with room for so many frames a class
 abbrev pub nothing_seen : ℕ → Observed
@@ -84,6 +86,8 @@ nothing_seen room = record {
   busy = 0;
   free = 0;
   first = None;
+  change = None;
+  early = 0;
 }
 
 -- what is seen of a class
@@ -95,13 +99,28 @@ abbrev pub in_class : ℕ → (ClassSeen → ClassSeen) → Observed → Observe
 in_class class change o =
     if nat_lt class 8 then record o { classes = slice_set o.classes class (change (class_at o.classes class)) } else o
 
--- a frame is queued at a moment: it is the first, where none was queued before
+-- the first of the moments that come one after another
 abbrev pub first_with : ℕ → Option ℕ → Option ℕ
 first_with now None = Some now
 first_with now (Some first) = Some first
 
+-- whether a moment is before the change moment of the first command: where none was accepted yet, it is before that of any to come
+abbrev pub is_early : ℕ → Option ℕ → Bool
+is_early now None = true
+is_early now (Some change) = nat_lt now change
+
+-- how many frames were queued so early, with one more that is or isn't
+abbrev pub early_with : Bool → ℕ → ℕ
+early_with true early = sum_capped early 1
+early_with false early = early
+
+-- a frame is queued at a moment: it is the first, where none was queued before
 abbrev pub with_queued : ℕ → Observed → Observed
-with_queued now o = record o { first = first_with now o.first }
+with_queued now o = record o { first = first_with now o.first; early = early_with (is_early now o.change) o.early }
+
+-- a command is accepted, and comes into force at this moment (IEEE Std 802.1Q-2018, 8.6.9.3: ConfigChangeTime): gates are open up to the first of these
+abbrev pub with_command : ℕ → Observed → Observed
+with_command change o = record o { change = first_with change o.change }
 
 -- a frame takes the wire: that part of its time counts that no frame before it has had
 abbrev pub on_wire : Start → Observed → Observed
@@ -112,7 +131,7 @@ abbrev pub seen : ℕ → Answer → Observed → Observed
 seen now (Answered.Queued id class) o = with_queued now (in_class class (with_arrival now) o)
 seen now (Answered.Start s) o = on_wire s (in_class s.class (with_start s.at) o)
 seen now (Answered.Dropped id why) o = o
-seen now (Answered.Installed change) o = o
+seen now (Answered.Installed change) o = with_command change o
 seen now (Answered.Refused why) o = o
 seen now Answered.Backward o = o
 seen now (Answered.Report report) o = o

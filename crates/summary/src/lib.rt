@@ -12,4 +12,4 @@ mod wanted;
 
 pub use tally::Summary;
 pub use waits::Waits;
-pub use wanted::{note, note_start, note_verdict, summary_wanted};
+pub use wanted::{note, note_installation, note_start, note_verdict, summary_wanted};

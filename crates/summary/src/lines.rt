@@ -4,7 +4,7 @@ ghost use Rattle.std.specs.Prelude.{◌≡◌, ◌≤◌, ◌&&◌, ◌==◌, []
 ghost use Rattle.text.specs.Writes.{Writes};
 ghost use Rattle.wire_time.specs.Moment.{greatest_moment};
 ghost use Rattle.port_text.specs.Part.{text_of};
-ghost use Rattle.summary.specs.Lines.{class_line, dropped_of, first_text, share_of, time_since, wait_text, wire_line};
+ghost use Rattle.summary.specs.Lines.{class_line, dropped_of, first_text, open_line, open_text, share_of, time_since, wait_text, wire_line};
 
 use crate::waits::Waits;
 use abstract_port::Counters;
@@ -141,6 +141,39 @@ pub(crate) fn put_wire_line<W: Write>(
             first_part(first),
             Part::Text(b" ppm "),
             Part::Number(share_of(busy, time_since(first, now))),
+            Part::Text(b"\n"),
+        ],
+    )
+}
+
+/// Writes how many frames were queued before the change moment of the first command, in picoseconds, where a command was
+/// accepted and there were such frames: all gates were open for them.
+pub(crate) fn put_open_text<W: Write>(
+    early: u128,
+    change: Option<u128>,
+    writer: &mut W,
+) -> Result<(), WriteFault>
+    ensures { Writes result (W.contents writer.old) (W.contents writer.new)
+        (open_text early change) }
+{
+    match change {
+        Some(change) if early > 0 => put_open_line(early, change, writer),
+        _ => Ok(()),
+    }
+}
+
+/// Writes the line of the frames that were queued before a moment, in picoseconds.
+fn put_open_line<W: Write>(early: u128, change: u128, writer: &mut W) -> Result<(), WriteFault>
+    ensures { Writes result (W.contents writer.old) (W.contents writer.new)
+        (open_line early change) }
+{
+    put_parts(
+        writer,
+        &[
+            Part::Text(b"summary open "),
+            Part::Number(early),
+            Part::Text(b" frames before "),
+            Part::Number(change),
             Part::Text(b"\n"),
         ],
     )

@@ -7,7 +7,7 @@ ghost use Rattle.summary.specs.Observed.{class_at, nothing_seen, with_arrival, w
 ghost use Rattle.summary.specs.Lines.{busy_by, class_text, wire_text};
 
 use crate::class_summary::ClassSummary;
-use crate::lines::{put_class_text, put_wire_line};
+use crate::lines::{put_class_text, put_open_text, put_wire_line};
 use abstract_port::per_class::classes_of;
 use abstract_port::{Answer, Counters, Start};
 use port_text::answer_text::WriteFault;
@@ -52,15 +52,25 @@ struct WireSeen {
     first: Option<u128>,
 }
 
+/// What is seen of the time before the first command comes into force, when all gates are open.
+#[derive(Clone, Copy, Debug, PartialEq, Eq)]
+struct OpenSeen {
+    /// The change moment of the first command that was accepted, in picoseconds, if one was.
+    change: Option<u128>,
+    /// How many frames were queued before it. It stays at the greatest u128.
+    early: u128,
+}
+
 /// What is seen of a run, from the answers of a port: how long the frames of each class waited, and how long the wire
 /// was busy.
 #[derive(Drop)]
 pub struct Summary<A: Allocator = Global> {
     classes: [ClassSummary<A>; CLASSES],
     wire: WireSeen,
+    open: OpenSeen,
 }
 
-/// A contract sees what is seen of each class, and of the wire.
+/// A contract sees what is seen of each class, of the wire, and of open gates.
 impl<A: Allocator> Model for Summary<A> {
     ghost use Rattle.summary.specs.Observed.{Observed};
 
@@ -73,13 +83,15 @@ impl<A: Allocator> Model for Summary<A> {
       busy = s.wire.busy;
       free = s.wire.free;
       first = s.wire.first;
+      change = s.open.change;
+      early = s.open.early;
     } };
 
     ghost invariant = { λ s. s.wire.busy ≤ s.wire.free };
 }
 
 impl<A: Allocator> Summary<A> {
-    ghost use Rattle.summary.specs.Observed.{first_with, in_class, on_wire, seen, with_queued};
+    ghost use Rattle.summary.specs.Observed.{first_with, in_class, is_early, on_wire, seen, with_command, with_queued};
 
     /// Nothing is seen yet. All memory that is ever wanted is taken here: the arrival moments of so many frames a
     /// class.
@@ -96,6 +108,10 @@ impl<A: Allocator> Summary<A> {
                 free: 0,
                 first: None,
             },
+            open: OpenSeen {
+                change: None,
+                early: 0,
+            },
         })
     }
 
@@ -108,11 +124,31 @@ impl<A: Allocator> Summary<A> {
         }
     }
 
-    /// A frame is queued at a moment, and may be the first.
+    /// Whether a moment is before the change moment of the first command.
+    fn is_early(&self, now: u128) -> bool
+        ensures { result ≡ is_early now self.now.change }
+    {
+        match self.open.change {
+            None => true,
+            Some(change) => now < change,
+        }
+    }
+
+    /// A frame is queued at a moment, may be the first, and may come before the first command is in force.
     fn see_first(&mut self, now: u128)
         ensures { self.new ≡ with_queued now self.old }
     {
+        if self.is_early(now) {
+            self.open.early = self.open.early.saturating_add(1);
+        }
         self.wire.first = Some(self.wire.first.unwrap_or(now));
+    }
+
+    /// A command is accepted, and comes into force at this moment.
+    fn see_command(&mut self, change: u128)
+        ensures { self.new ≡ with_command change self.old }
+    {
+        self.open.change = Some(self.open.change.unwrap_or(change));
     }
 
     /// The first frame of a class, if it is one, starts at a moment.
@@ -133,8 +169,8 @@ impl<A: Allocator> Summary<A> {
         self.wire.free = self.wire.free.max(start.end);
     }
 
-    /// Takes note of an answer that a port gives at this moment, in picoseconds: a frame that is queued then, or one
-    /// that starts.
+    /// Takes note of an answer that a port gives at this moment, in picoseconds: a frame that is queued then, one that
+    /// starts, or a command that is accepted.
     pub fn see(&mut self, now: u128, answer: &Answer)
         ensures { self.new ≡ seen now answer.now self.old }
     {
@@ -147,6 +183,7 @@ impl<A: Allocator> Summary<A> {
                 self.see_started(start.class, start.at);
                 self.see_on_wire(start);
             }
+            Answer::Installed(change) => self.see_command(*change),
             _ => {}
         }
     }
@@ -177,12 +214,14 @@ impl<A: Allocator> Summary<A> {
         put_class_text(class, counters, &seen.waits(), seen.most(), writer)
     }
 
-    /// Writes the line of the wire, up to this moment, in picoseconds. At a fault a prefix of it is written.
+    /// Writes the line of the wire, up to this moment, in picoseconds, and that of the frames for which all gates were
+    /// open, where there were some before the first command. At a fault a prefix of both is written.
     pub fn put_wire<W: Write>(&self, now: u128, writer: &mut W) -> Result<(), WriteFault>
         requires { now ≤ greatest_moment }
         ensures { Writes result (W.contents writer.old) (W.contents writer.new)
             (wire_text now self.now) }
     {
-        put_wire_line(self.busy_by(now), now, self.wire.first, writer)
+        put_wire_line(self.busy_by(now), now, self.wire.first, writer)?;
+        put_open_text(self.open.early, self.open.change, writer)
     }
 }

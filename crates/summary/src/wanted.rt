@@ -1,13 +1,13 @@
 //! A summary where one is wanted, and none where it isn't.
 
 ghost use Rattle.std.specs.Prelude.{◌≡◌, IfOk};
-ghost use Rattle.abstract_port.specs.Answers.{arrival_answer};
+ghost use Rattle.abstract_port.specs.Answers.{arrival_answer, command_answer};
 ghost use Rattle.abstract_port.specs.declared.Answer.TheVariants as Answers;
 ghost use Rattle.summary.specs.Observed.{seen};
 ghost use Rattle.summary.specs.Wanted.{noted, watched};
 
 use crate::tally::Summary;
-use abstract_port::{Answer, Dropped, Start};
+use abstract_port::{Answer, Dropped, Refused, Start};
 use std::alloc::{AllocError, Allocator};
 use wire_time::Frame;
 
@@ -84,5 +84,23 @@ pub fn note_start<A: Allocator>(summary: &mut Option<Summary<A>>, now: u128, sta
 {
     if let Some(summary) = summary {
         see_start(summary, now, *start);
+    }
+}
+
+/// Takes note of the answer to a command that is given at this moment, in picoseconds, where a summary is wanted: it is
+/// accepted with a change moment, or refused.
+pub fn note_installation<A: Allocator>(
+    summary: &mut Option<Summary<A>>,
+    now: u128,
+    answer: Result<u128, Refused>,
+)
+    ensures { summary.new ≡ noted now (command_answer answer) summary.old }
+{
+    let Some(summary) = summary else {
+        return;
+    };
+    match answer {
+        Ok(change) => summary.see(now, &Answer::Installed(change)),
+        Err(why) => summary.see(now, &Answer::Refused(why)),
     }
 }

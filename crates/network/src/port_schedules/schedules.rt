@@ -3,17 +3,17 @@
 ghost use Rattle.std.specs.Prelude.{◌≡◌, List, MatchOption, None, Result, Some, find, ℕ};
 ghost use Rattle.abstract_port.specs.declared.Command.{Command};
 ghost use Rattle.network.specs.Reads.{Takes, seen};
-ghost use Rattle.network.specs.Device.{device_in};
+ghost use Rattle.pasted.specs.Device.{device_in};
 ghost use Rattle.network.specs.Schedules.{change_put, command_put, has_port, line_put, line_said, port_named, schedule_line, schedule_line_of};
 ghost use Rattle.port_text.specs.Reader.{IsReader};
 ghost use Rattle.port_text.specs.declared.tc_reader.fault.TcFault.{TcFault};
 ghost use Rattle.text.specs.Words.{words_of};
 
 use crate::network_table::Network;
-use crate::port_schedules::device::device_in;
 use crate::port_schedules::faults::SchedulesFault;
 use abstract_port::{Change, Command};
 use job::Fault;
+use pasted::device_in;
 use schedule_check::is_command;
 use script::read_tc;
 use std::alloc::Allocator;

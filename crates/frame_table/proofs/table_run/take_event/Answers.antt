@@ -42,8 +42,8 @@ returns-in-Install-clause-after g c =
 pub returns-in-Install-clause-alerts : goal.returns-in-Install-clause-alerts
 returns-in-Install-clause-alerts g c =
     let same = install-alerts c.args.streams.now c.args.port.now.port c.args.arrivals.now c.in-Install.command c.install-answer.result c.install-answer.ensures.answer in
-    subst (λ (e : Event). g.H.Watch.alerted (request_alerts c.args.streams.now (Asks e) c.args.port.now.port c.args.arrivals.now) c.args.watch.now c.tell_refusal.new.watch) (sym c.in-Install.is)
-    (alerts_same g.H.Watch.alerted _ _ c.args.watch.now c.tell_refusal.new.watch same c.tell_refusal.ensures)
+    subst (λ (e : Event). g.H.Watch.alerted (request_alerts c.args.streams.now (Asks e) c.args.port.now.port c.args.arrivals.now) c.args.watch.now c.tell_command.new.watch) (sym c.in-Install.is)
+    (alerts_same g.H.Watch.alerted _ _ c.args.watch.now c.tell_command.new.watch same c.tell_command.ensures)
 
 pub returns-in-Count-clause-alerts : goal.returns-in-Count-clause-alerts
 returns-in-Count-clause-alerts g c =

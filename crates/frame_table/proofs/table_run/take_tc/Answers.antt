@@ -21,8 +21,8 @@ returns-in-Err-clause-port g c = λ read is.
 pub returns-in-Ok-clause-alerts : goal.returns-in-Ok-clause-alerts
 returns-in-Ok-clause-alerts g c = λ read is.
     let p = c.args.port.now.port in
-    let told = alerts_same g.H.Watch.alerted _ _ c.args.watch.now c.tell_refusal.new.watch (command-alerts p (lent c.in-Ok.command) c.install-answer.result c.install-answer.ensures.answer) c.tell_refusal.ensures in
-    subst (λ (r : Result Command TcFault). g.H.Watch.alerted (alerts_of (told_to (tc_request r) p)) c.args.watch.now c.tell_refusal.new.watch) (c.in-Ok.ensures read is) told
+    let told = alerts_same g.H.Watch.alerted _ _ c.args.watch.now c.tell_command.new.watch (command-alerts p (lent c.in-Ok.command) c.install-answer.result c.install-answer.ensures.answer) c.tell_command.ensures in
+    subst (λ (r : Result Command TcFault). g.H.Watch.alerted (alerts_of (told_to (tc_request r) p)) c.args.watch.now c.tell_command.new.watch) (c.in-Ok.ensures read is) told
 
 pub returns-in-Err-clause-alerts : goal.returns-in-Err-clause-alerts
 returns-in-Err-clause-alerts g c = λ read is.

@@ -9,7 +9,7 @@ pub returns : goal.returns
 returns g c =
     let looks = c.looks_of-looks.ensures in
     let after = c.warn_of_nothing.ensures in
-    let last = c.has_found.ensures ∙ c.report_fault.ensures in
+    let last = c.has_found.ensures ∙ (c.tell_passed.ensures ∙ (c.tell_rounded.ensures ∙ c.report_fault.ensures)) in
     record {
       run = c.answer_job-writer.result.0;
       text = c.answer_job-writer.new.errors.text.items;

@@ -17,5 +17,5 @@ loop-job-preserved c = record {
 
 pub returns-clause-none : goal.returns-clause-none
 returns-clause-none c =
-    let done : c.loop-job.job-index ≡ 9 = omega arith in
+    let done : c.loop-job.job-index ≡ 10 = omega arith in
     λ same. none_at_all c.args.matches.now _ (rw done at c.loop-job.invariant) refl

@@ -13,7 +13,7 @@ loop-job-init c =
 
 pub returns : goal.returns
 returns c =
-    let done : c.loop-job.job-index ≡ 9 = omega arith in
+    let done : c.loop-job.job-index ≡ 10 = omega arith in
     rw done at c.loop-job.invariant
 
 pub loop-job-preserved : goal.loop-job-preserved

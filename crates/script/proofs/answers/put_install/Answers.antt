@@ -1,6 +1,7 @@
-use Rattle.std.proofs.Common.{arith, sym, ap, ◌∙◌}
+use Rattle.std.proofs.Common.{[], ◌∷◌, arith, sym, ap, ◌∙◌}
+use Rattle.abstract_port.specs.declared.Event.TheVariants.{Install}
 use Rattle.script.specs.Words.{settled, command_answer}
-use Rattle.script.proofs.GivenLaws.{always, command_unseen, one_written}
+use Rattle.script.proofs.GivenLaws.{always, one_noted, one_written}
 use Rattle.script.proofs.StartsLaws.{settled-sound}
 use Rattle.script.proofs.answers.put_install.Goals as goal
 
@@ -11,7 +12,7 @@ returns g c =
     record {
       text = one_written r _ _ _ _ (ap command_answer e.answer) c.put_installation.ensures;
       port = always r (sym (settled-sound c.install-answer.new.self.port e.sound) ∙ ap settled e.port);
-      seen = always r (command_unseen c.args.command c.args.port.now.port c.args.summary.now);
+      seen = always r (c.note_installation.ensures ∙ one_noted c.now-now.result (Install c.args.command) c.args.port.now.port c.args.summary.now (command_answer c.install-answer.result) c.now-now.ensures.now (ap (λ answer. command_answer answer ∷ []) e.answer));
       sound = always r e.sound;
       few = omega (arith, e.visits);
     }

@@ -15,4 +15,4 @@ returns-clause-taken g c =
 
 pub returns-clause-alerts : goal.returns-clause-alerts
 returns-clause-alerts g c =
-    alerts_same g.H.Watch.alerted _ _ c.args.watch.now c.tell_refusal.new.watch (command-alerts c.args.port.now.port c.args.command c.install-answer.result c.install-answer.ensures.answer) c.tell_refusal.ensures
+    alerts_same g.H.Watch.alerted _ _ c.args.watch.now c.tell_command.new.watch (command-alerts c.args.port.now.port c.args.command c.install-answer.result c.install-answer.ensures.answer) c.tell_command.ensures

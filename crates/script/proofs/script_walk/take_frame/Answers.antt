@@ -19,7 +19,7 @@ returns-in-Ok-clause-taken g c =
 pub returns-in-Ok-clause-alerts : goal.returns-in-Ok-clause-alerts
 returns-in-Ok-clause-alerts g c =
     let told = told_queued c.now-now.result c.args.port.now.port c.args.frame.now c.in-Ok.class c.arrive.result c.now-now.ensures.now c.arrive.ensures.answer c.in-Ok.is in
-    alerts_same g.H.Watch.alerted [] _ c.args.watch.now c.args.watch.now (ap alerts_of told) (g.met.H.Watch.nothing c.args.watch.now)
+    alerts_same g.H.Watch.alerted [] _ c.args.watch.now c.frame_came.new.self (ap alerts_of told) c.frame_came.ensures
 
 pub returns-in-Err-clause-taken : goal.returns-in-Err-clause-taken
 returns-in-Err-clause-taken g c =

@@ -26,11 +26,13 @@ fn has_tc(line: &[u8]) -> bool {
 /// What helps with a line that has something before its `tc`.
 pub(crate) fn pasted_front(line: &[u8], first: &[u8]) -> Option<&'static [u8]> {
     if first.starts_with(BYTE_ORDER_MARK) {
-        return Some(b"the file begins with a byte order mark (UTF-8): save it without");
+        return Some(
+            b"the file begins with a byte order mark (UTF-8): save it without, or give --tolerant",
+        );
     }
     if has_tc(line) {
         return Some(
-            b"the line begins with tc: leave out what stands before it, such as a prompt, sudo or a path",
+            b"the line begins with tc: leave out what stands before it, such as a prompt, sudo or a path, or give --tolerant",
         );
     }
     None
@@ -40,9 +42,11 @@ pub(crate) fn pasted_front(line: &[u8], first: &[u8]) -> Option<&'static [u8]> {
 pub(crate) fn pasted_word(word: &[u8]) -> Option<&'static [u8]> {
     match word {
         [b'$', ..] => Some(b"a variable of a shell: write its value"),
-        [b'\'' | b'"', ..] => Some(b"quotation marks of a shell: leave them out"),
+        [b'\'' | b'"', ..] => Some(
+            b"quotation marks of a shell: leave them out, or give --tolerant",
+        ),
         b"\\" => Some(
-            b"blanks behind a backslash: it joins two lines only where it is the last character",
+            b"blanks behind a backslash, which joins two lines only as the last character: --tolerant drops them",
         ),
         b"&" | b"&&" | b"|" | b"||" | b"<" | b">" | b">>" | b"#" | [.., b';'] => {
             Some(b"a sign of a shell: the line ends with its last word")
