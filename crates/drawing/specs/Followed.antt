@@ -1,5 +1,5 @@
 -- The bands of a run: how they follow the port, request by request. Moments are in picoseconds.
-use Rattle.std.specs.Prelude.{◌≡◌, ◌<◌, ◌≤◌, ◌⊎◌, ◌+◌, ℕ, ⊤, Option, Some, None, nat_lt, if◌then◌else◌, false, List, [], ◌∷◌, Result, Ok, Err}
+use Rattle.std.specs.Prelude.{◌≡◌, ◌<◌, ◌≤◌, ◌⊎◌, ◌+◌, max, ℕ, ⊤, Option, Some, None, nat_lt, if◌then◌else◌, false, List, [], ◌∷◌, Result, Ok, Err}
 use Rattle.wire_time.specs.Wire.{lead_of}
 use Rattle.wire_time.specs.declared.TheConstants.{CLASSES}
 use Rattle.abstract_port.specs.AbstractPort.{AbstractPort, installs, settled}
@@ -114,23 +114,29 @@ pub record IsEnded (d new : Drawing) : Type 0 where
 abbrev pub FollowedAndEnded : View → ℕ → Drawing → Drawing → Type 0
 FollowedAndEnded view now d new = (mid : Drawing) × (IsFollowed view now d mid × IsEnded mid new)
 
--- the run goes on to the end of what is shown
-abbrev pub EndBands : DrawOptions → AbstractPort → Course → Drawing → Option Pane → Drawing → Type 0
-EndBands o p x d None new = ⊤
-EndBands o p x d (Some pane) new = FollowedAndEnded (view_of o x.scope) (answers_to (Clock pane.to) p).1.now d new
+-- to the end of what is shown, unless the run was to go on past it, to a later moment
+abbrev pub EndBands : DrawOptions → ℕ → Course → Drawing → Option Pane → Drawing → Type 0
+EndBands o asked x d None new = ⊤
+EndBands o asked x d (Some pane) new = FollowedAndEnded (view_of o x.scope) (max asked pane.to) d new
 
--- after the lines
-abbrev pub BandsShown : DrawOptions → AbstractPort → Course → Drawing → Drawing → Type 0
-BandsShown o p x d new = EndBands o p x d (viewport_shown o x.scope (last_moment p x)) new
+abbrev pub BandsShown : DrawOptions → ℕ → Course → Drawing → Drawing → Type 0
+BandsShown o asked x d new = EndBands o asked x d (viewport_shown o x.scope (last_moment asked x)) new
+
+-- after the lines: the run goes on to one moment, where it is given; it was to go on to that of the settings, if they give one
+abbrev pub BandsTo : Option ℕ → Setup → DrawOptions → AbstractPort → Course → Drawing → Drawing → Type 0
+BandsTo upto s o p x d new = BandsShown o (port_on s.until p).now (course_on upto p x) d new
 
 abbrev pub BandsAtEnd : Setup → DrawOptions → AbstractPort → Course → Drawing → Drawing → Type 0
-BandsAtEnd s o p x d new = BandsShown o (port_on s.until p) (course_on s.until p x) d new
+BandsAtEnd s o p x d new = BandsTo s.until s o p x d new
 
--- from a port, what is drawn of it so far, and its bands
+-- by requests, from a port, what is drawn of it so far, and its bands; and then to that end
+abbrev pub BandsOfRequests : Option ℕ → Setup → DrawOptions → List Request → AbstractPort → Course → Drawing → Drawing → Type 0
+BandsOfRequests upto s o requests p x d new =
+    (mid : Drawing) × (BandsAfter s o requests p x d mid
+    × BandsTo upto s o (settled (port_after (events_of requests) p)) (seen_after (events_of requests) p x) mid new)
+
 abbrev pub BandsOfReading : Setup → DrawOptions → Reading → AbstractPort → Course → Drawing → Drawing → Type 0
-BandsOfReading s o reading p x d new =
-    (mid : Drawing) × (BandsAfter s o reading.requests p x d mid
-    × BandsAtEnd s o (settled (port_after (events_of reading.requests) p)) (seen_after (events_of reading.requests) p x) mid new)
+BandsOfReading s o reading p x d new = BandsOfRequests s.until s o reading.requests p x d new
 
 -- no bands yet
 abbrev pub first_bands : DrawOptions → Drawing

@@ -5,6 +5,7 @@ pub mod Followed
 pub mod Given
 pub mod Layout
 pub mod Marks
+pub mod OfCapture
 pub mod Options
 pub mod Picture
 pub mod PictureEnd
@@ -12,4 +13,5 @@ pub mod Scope
 pub mod Shapes
 pub mod Taken
 pub mod View
+pub mod Walk
 pub mod Words

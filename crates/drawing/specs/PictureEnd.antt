@@ -15,6 +15,7 @@ use Rattle.port_text.specs.declared.tc_reader.fault.TcFault.{TcFault}
 use Rattle.wire_time.specs.Wire.{lead_of}
 use Rattle.job.specs.Outcome.{Outcome, RunsOut}
 use Rattle.job.specs.RunEnd.{IsLetOut, IsRunEnding}
+use Rattle.script.specs.Requests.{Request}
 use Rattle.script.specs.Responses.{events_of}
 use Rattle.script.specs.ScriptEnd.{IsRefusal}
 use Rattle.script.specs.Texts.{script_telling}
@@ -48,12 +49,20 @@ abbrev pub shown_text : Setup → DrawOptions → AbstractPort → Course → Dr
 shown_text s o p x bands None = []
 shown_text s o p x bands (Some pane) = fitted_text (page_of s o x.scope pane) bands (ended_at pane.to (seen_at (Clock pane.to) p x)).shown
 
-abbrev pub end_text : Setup → DrawOptions → AbstractPort → Course → Drawing → List ℕ
-end_text s o p x bands = shown_text s o p x bands (viewport_shown o x.scope (last_moment p x))
+-- where the run was to go on to a moment
+abbrev pub end_text : Setup → DrawOptions → ℕ → AbstractPort → Course → Drawing → List ℕ
+end_text s o asked p x bands = shown_text s o p x bands (viewport_shown o x.scope (last_moment asked x))
 
--- after the lines: the run goes on to the moment that the settings give, if they give one
+-- after the lines: the run goes on to one moment, where it is given; it was to go on to that of the settings, if they give one
+abbrev pub picture_to : Option ℕ → Setup → DrawOptions → AbstractPort → Course → Drawing → List ℕ
+picture_to upto s o p x bands = end_text s o (port_on s.until p).now (port_on upto p) (course_on upto p x) bands
+
 abbrev pub picture_after : Setup → DrawOptions → AbstractPort → Course → Drawing → List ℕ
-picture_after s o p x bands = end_text s o (port_on s.until p) (course_on s.until p x) bands
+picture_after s o p x bands = picture_to s.until s o p x bands
+
+-- of requests, from a port and what is drawn of it so far
+abbrev pub picture_by : Option ℕ → Setup → DrawOptions → List Request → AbstractPort → Course → Drawing → List ℕ
+picture_by upto s o requests p x bands = let events = events_of requests in picture_to upto s o (settled (port_after events p)) (seen_after events p x) bands
 
 -- this picture, or, where the script has a fault, no picture and its first fault
 abbrev pub drawn_with : List ℕ → Option BadLine → Outcome BadLine
@@ -62,9 +71,7 @@ drawn_with picture (Some fault) = record { text = []; fault = Some fault }
 
 -- what is written for lines, from a port and what is drawn of it so far
 abbrev pub outcome_drawn : Setup → DrawOptions → Reading → AbstractPort → Course → Drawing → Outcome BadLine
-outcome_drawn s o reading p x bands =
-    let events = events_of reading.requests in
-    drawn_with (picture_after s o (settled (port_after events p)) (seen_after events p x) bands) reading.fault
+outcome_drawn s o reading p x bands = drawn_with (picture_by s.until s o reading.requests p x bands) reading.fault
 
 -- for the octets of an input, on a new port
 abbrev pub first_course : Setup → DrawOptions → Course

@@ -44,6 +44,6 @@ abbrev pub course_on : Option ℕ → AbstractPort → Course → Course
 course_on None p x = x
 course_on (Some until) p x = seen_at (Clock until) p x
 
--- the last moment of a run: that of the port, or the end of the last frame
-abbrev pub last_moment : AbstractPort → Course → ℕ
-last_moment p x = min (max p.now x.last) greatest_moment
+-- the last moment of a run that was to go on to a moment: that, or the end of the last frame
+abbrev pub last_moment : ℕ → Course → ℕ
+last_moment asked x = min (max asked x.last) greatest_moment

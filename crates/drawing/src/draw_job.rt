@@ -1,13 +1,14 @@
-//! The program's job: a script becomes a picture.
+//! The program's job: a script becomes a picture, also beside a capture.
 
 ghost use Rattle.std.specs.Prelude.{◌≡◌, IfErr};
 ghost use Rattle.text.specs.Buffered.{writer_contents};
-ghost use Rattle.drawing.specs.Words.{settings_given, words_of_values, greatest_moment, IsDrawEnding, words_of_draws, options_of};
+ghost use Rattle.drawing.specs.Words.{settings_given, words_of_values, greatest_moment, IsCapturePicture, IsDrawEnding, words_of_draws, options_of};
 
+use crate::capture_run::draw_capture;
 use crate::draw_run::draw;
-use crate::options::{DrawValues, options_given};
+use crate::options::{DrawOptions, DrawValues, options_given};
 use job::{Ended, Errors, end_run};
-use script::{Values, Watch, end_with_value, settings_given};
+use script::{Settings, Values, Watch, end_with_value, settings_given};
 use std::alloc::{Allocator, Global};
 use std::io::{Read, Write};
 use text::octet_writer::BufWriter;
@@ -44,4 +45,41 @@ pub fn answer_draw<B: Allocator, R: Read, W: Write + Drop, E: Errors, H: Watch>(
         }
         Err(value) => end_with_value(value, answers, errors),
     }
+}
+
+/// Draws the run of the script that `reader` gives and of the capture that `capture` gives, with settings whose moment is
+/// judged as that of a replay, through `answers`, with the text of a fault on `errors`; and gives the writer of the
+/// answers back. At a fault of the script, or of the file header of the capture, nothing is drawn. What was written is
+/// let out before a fault is reported; after a failed write no other is tried.
+pub fn answer_draw_of_capture<
+    B: Allocator,
+    R: Read,
+    S: Read + Drop,
+    W: Write + Drop,
+    E: Errors,
+    H: Watch,
+>(
+    alloc: Global,
+    settings: Settings,
+    options: DrawOptions,
+    capture: S,
+    reader: &mut R,
+    mut answers: BufWriter<W, B>,
+    errors: &mut E,
+    watch: &mut H,
+) -> (Ended, W)
+    ensures { IsCapturePicture settings options (R.remaining reader.old) (S.remaining capture)
+        result.0 (writer_contents W.contents answers) (W.contents result.1)
+        (E.contents errors.old) (E.contents errors.new) }
+{
+    let run = draw_capture(
+        alloc,
+        reader,
+        capture,
+        &mut answers,
+        settings,
+        options,
+        watch,
+    );
+    end_run(run, answers, errors)
 }

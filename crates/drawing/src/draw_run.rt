@@ -120,13 +120,20 @@ fn go_on<A: Allocator>(bands: &mut Bands<A>, now: u128)
     }
 }
 
+/// The bands follow the port to a moment, in picoseconds.
+fn follow_to<A: Allocator>(bands: &mut Bands<A>, view: View, now: u128)
+    requires { now ≤ greatest_moment }
+    ensures { IsFollowed view now bands.old bands.new }
+{
+    begin_shown(bands, view, now);
+    go_on(bands, now);
+}
+
 /// The bands go on to where the port is.
 fn follow<A: Allocator>(port: &RunningPort<A>, bands: &mut Bands<A>, view: View)
     ensures { IsFollowed view port.now.port.now bands.old bands.new }
 {
-    let now = port.now();
-    begin_shown(bands, view, now);
-    go_on(bands, now);
+    follow_to(bands, view, port.now());
 }
 
 /// How long after it is given a command has its lead moment, in picoseconds.
@@ -192,7 +199,7 @@ fn command_in<'a>(event: &Event<'a>) -> Option<&'a Command>
 }
 
 /// Takes an event that a line asks, and the bands follow.
-fn take_asked<A: Allocator>(
+pub(crate) fn take_asked<A: Allocator>(
     port: &mut RunningPort<A>,
     bands: &mut Bands<A>,
     course: &mut Course<A>,
@@ -219,7 +226,7 @@ fn take_asked<A: Allocator>(
 
 /// Takes the line of this number, which begins with `tc`. One that changes nothing isn't drawn, and who watches is
 /// called for it.
-fn take_tc<A: Allocator, H: Watch>(
+pub(crate) fn take_tc<A: Allocator, H: Watch>(
     port: &mut RunningPort<A>,
     bands: &mut Bands<A>,
     course: &mut Course<A>,
@@ -324,7 +331,11 @@ fn take_lines<A: Allocator, B: Allocator, R: Read + Drop, H: Watch>(
 }
 
 /// The run goes on to a moment, in picoseconds, where one is given that isn't past.
-fn run_on<A: Allocator>(port: &mut RunningPort<A>, course: &mut Course<A>, until: Option<u128>)
+pub(crate) fn run_on<A: Allocator>(
+    port: &mut RunningPort<A>,
+    course: &mut Course<A>,
+    until: Option<u128>,
+)
     ensures port { port.new.port ≡ port_on until port.old.port }
     ensures course { course.new ≡ course_on until port.old.port course.old }
     ensures sound { IsSoundPort port.new.port }
@@ -337,12 +348,12 @@ fn run_on<A: Allocator>(port: &mut RunningPort<A>, course: &mut Course<A>, until
     }
 }
 
-/// The last moment of the run: now, or the end of the last frame.
-fn last_moment<A: Allocator>(port: &RunningPort<A>, course: &Course<A>) -> u128
-    ensures value { result ≡ last_moment port.now.port course.now }
+/// The last moment of a run that was to go on to a moment, in picoseconds: that, or the end of the last frame.
+fn last_moment<A: Allocator>(course: &Course<A>, asked: u128) -> u128
+    ensures value { result ≡ last_moment asked course.now }
     ensures within { result ≤ greatest_moment }
 {
-    port.now().max(course.last()).min(MAX_MOMENT)
+    asked.max(course.last()).min(MAX_MOMENT)
 }
 
 /// What is drawn of a run up to the end of its picture.
@@ -355,11 +366,12 @@ fn end_course<A: Allocator>(port: &mut RunningPort<A>, course: &mut Course<A>, t
     course.end_at(to);
 }
 
-/// The bands go on to where the port is, and end.
-fn end_bands<A: Allocator>(port: &RunningPort<A>, bands: &mut Bands<A>, view: View)
-    ensures { FollowedAndEnded view port.now.port.now bands.old bands.new }
+/// The bands go on to a moment, in picoseconds, and end.
+fn end_bands<A: Allocator>(bands: &mut Bands<A>, view: View, now: u128)
+    requires { now ≤ greatest_moment }
+    ensures { FollowedAndEnded view now bands.old bands.new }
 {
-    follow(port, bands, view);
+    follow_to(bands, view, now);
     bands.end();
 }
 
@@ -390,7 +402,7 @@ fn page_of(settings: Settings, options: DrawOptions, scope: Scope, viewport: Vie
     }
 }
 
-/// Runs to the end of what a picture shows, and writes it.
+/// Runs to the end of what a picture shows, and writes it. The run was to go on to a moment, in picoseconds.
 fn draw_shown<A: Allocator, W: Write>(
     port: &mut RunningPort<A>,
     bands: &mut Bands<A>,
@@ -398,36 +410,42 @@ fn draw_shown<A: Allocator, W: Write>(
     writer: &mut W,
     settings: Settings,
     options: DrawOptions,
+    asked: u128,
     viewport: Viewport,
 ) -> Result<(), WriteFault>
+    requires { asked ≤ greatest_moment }
     ensures { ForSomeBands
-        (λ b. EndBands options port.old.port course.old bands.old (Some viewport) b
+        (λ b. EndBands options asked course.old bands.old (Some viewport) b
         × Writes result (W.contents writer.old) (W.contents writer.new)
         (shown_text settings options port.old.port course.old b (Some viewport))) }
 {
     let scope = course.scope();
     end_course(port, course, viewport.to());
-    end_bands(port, bands, options.view(scope));
+    end_bands(bands, options.view(scope), asked.max(viewport.to()));
     let page = page_of(settings, options, scope, viewport);
     put_course(bands, course, writer, &page)
 }
 
-/// Writes the picture of a run that has ended.
-fn draw_ended<A: Allocator, W: Write>(
+/// Writes the picture of a run that has ended, and was to go on to a moment, in picoseconds.
+pub(crate) fn draw_ended<A: Allocator, W: Write>(
     port: &mut RunningPort<A>,
     bands: &mut Bands<A>,
     course: &mut Course<A>,
     writer: &mut W,
     settings: Settings,
     options: DrawOptions,
+    asked: u128,
 ) -> Result<(), WriteFault>
+    requires { asked ≤ greatest_moment }
     ensures { ForSomeBands
-        (λ b. BandsShown options port.old.port course.old bands.old b
+        (λ b. BandsShown options asked course.old bands.old b
         × Writes result (W.contents writer.old) (W.contents writer.new)
-        (end_text settings options port.old.port course.old b)) }
+        (end_text settings options asked port.old.port course.old b)) }
 {
-    match options.viewport(course.scope(), last_moment(port, course)) {
-        Some(viewport) => draw_shown(port, bands, course, writer, settings, options, viewport),
+    match options.viewport(course.scope(), last_moment(course, asked)) {
+        Some(viewport) => draw_shown(
+            port, bands, course, writer, settings, options, asked, viewport,
+        ),
         None => Ok(()),
     }
 }
@@ -447,7 +465,8 @@ fn draw_end<A: Allocator, W: Write>(
         (picture_after settings options port.old.port course.old b)) }
 {
     run_on(port, course, settings.until());
-    draw_ended(port, bands, course, writer, settings, options)
+    let asked = port.now();
+    draw_ended(port, bands, course, writer, settings, options, asked)
 }
 
 /// Runs the lines of a script, and writes the picture of what happens.
@@ -473,7 +492,7 @@ fn draw_lines<A: Allocator, B: Allocator, R: Read + Drop, W: Write, H: Watch>(
 }
 
 /// Nothing is drawn yet.
-fn first_course<A: Allocator + Clone>(
+pub(crate) fn first_course<A: Allocator + Clone>(
     alloc: &A,
     settings: Settings,
     options: DrawOptions,
