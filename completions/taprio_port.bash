@@ -14,7 +14,7 @@ _taprio_port() {
         bounds) words='--rate --mtu --room --map --frames --silent --leftovers --slack --why --tolerant --device --strict --explain --help' values='--rate --mtu --room --map --frames --silent --device' ;;
         paths) words='--rate --mtu --room --frames --silent --leftovers --next --tolerant --strict --explain --help' values='--rate --mtu --room --frames --silent --next' ;;
         plan) words='--rate --mtu --room --cycle --entries --least-interval --device --base-time --share --explain --help' values='--rate --mtu --room --cycle --entries --least-interval --device --base-time' ;;
-        draw) words='--rate --mtu --room --until --from --to --width --tolerant --device --strict --explain --help' values='--rate --mtu --room --until --from --to --width --device' ;;
+        draw) words='--rate --mtu --room --until --capture --format --fcs --from --to --width --tolerant --device --strict --explain --help' values='--rate --mtu --room --until --capture --format --fcs --from --to --width --device' ;;
         frames) words='--rate --mtu --room --until --capture --format --fcs --by-stream --tolerant --device --strict --explain --help' values='--rate --mtu --room --until --capture --format --fcs --by-stream --device' ;;
         compare) words='--by --within --explain --help' values='--by --within' ;;
         *) return ;;

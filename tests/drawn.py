@@ -1,7 +1,10 @@
-"""Pictures: those of the examples, which lie beside them, and what a picture doesn't have."""
+"""Pictures: those of the examples, which lie beside them, those of replays, and what a picture doesn't have."""
 import pathlib
+import random
+import tempfile
 
-from rows import Row, run, shown
+from frames import merged, moments, records, script
+from rows import Row, captured, run, shown
 
 EXAMPLES = pathlib.Path(__file__).resolve().parent.parent / "examples"
 
@@ -81,3 +84,41 @@ def case_bands_are_the_same_however_many_parts_there_are(program):
     assert (few.status, many.status) == (0, 0)
     bands = [[line for line in ran.output.split(b"\n") if line.startswith(b"<rect") and b' y="310" ' in line] for ran in (few, many)]
     assert bands[0] == bands[1] and sum(b'class="o"' in line for line in bands[0]) == 94, bands
+
+
+def last_moment(lines, report):
+    """The last moment of a run: that of its last line, or the end of its last frame."""
+    ends = [int(line.split()[7]) for line in report.splitlines() if line.startswith("start ")]
+    return max([now for now, _ in moments(lines)] + ends, default=0)
+
+
+def case_pictures_of_captures_are_those_of_the_scripts_that_merge_both(program):
+    """The picture of a random script beside a random capture is that of the script that merges both, which runs on to the end of its last frame. So it is
+    with options; and where the last record is cut, it is that of the others."""
+    drawn = 0
+    with tempfile.TemporaryDirectory() as room:
+        path = f"{room}/capture"
+        for seed in range(80):
+            dice = random.Random(f"drawn captures {seed}")
+            lines = [line for line in script(dice) if not line.startswith("frame")]
+            taken = records(dice)
+            words = [] if dice.random() < 0.5 else ["--room", str(dice.choice([1, 2, 7, 30]))]
+            until = [] if dice.random() < 0.6 else ["--until", str(dice.randrange(2_000_000_000))]
+            view = dice.choice([[], [], ["--to", "300us"], ["--from", "20us"], ["--from", "10us", "--to", "90us", "--width", "700"]])
+            whole = captured(taken)
+            is_cut = bool(taken) and dice.random() < 0.2
+            pathlib.Path(path).write_bytes(whole[:-1] if is_cut else whole)
+            octets = "".join(f"{line}\n" for line in lines).encode()
+            ran = run(program, ["draw", *words, *until, *view, "--capture", path], octets)
+            report = run(program, ["frames", *words, *until, "--capture", path], octets)
+            assert (ran.status, ran.errors) == (report.status, report.errors), (seed, ran.status, ran.errors)
+            if ran.errors.startswith(b"taprio_port: script"):
+                assert ran.output == b"", seed
+                continue
+            both = "".join(f"{line}\n" for line in merged(lines, taken[:-1] if is_cut else taken))
+            told = run(program, ["script", *words, "--until", "4294967296s"], both.encode())
+            end = until or ["--until", str(last_moment(both.splitlines(), told.output.decode()))]
+            wanted = run(program, ["draw", *words, *end, *view], both.encode())
+            assert ran.output == wanted.output, (seed, end, shown(ran.output), shown(wanted.output))
+            drawn += 1
+    assert drawn > 40, drawn

@@ -12,7 +12,9 @@ use Rattle.frame_table.specs.Outcome.{whole_frames}
 use Rattle.capture.specs.declared.writer.TheConstants.{CAPTURE_END}
 use Rattle.wire_time.specs.Moment.{greatest_moment}
 use Rattle.drawing.specs.Given.{DrawWords}
+use Rattle.drawing.specs.OfCapture.{IsCapturePicture}
 use Rattle.drawing.specs.Options.{options_of}
+use Rattle.drawing.specs.PictureEnd.{IsDrawEnding}
 use Rattle.drawing.specs.declared.options.DrawOptions.{DrawOptions}
 use Rattle.replay.specs.Texts.{open_text}
 use Rattle.replay.specs.Timing.{timing_given}
@@ -175,10 +177,10 @@ IsGivenPlan (Ok port) explain (Some path) ended old got errors_old errors_new =
     ⊎ ((text : List ℕ) × IsUnanswered 2 text ended old got errors_old errors_new))
 IsGivenPlan (Err value) explain (Some path) ended old got errors_old errors_new = IsRefusal value ended old got errors_old errors_new
 
--- the settings of the values that are given to `frames`: with a capture the moment to run to is one of a replay
-abbrev pub frames_settings : Option (List ℕ) → Found → Result Setup BadValue
-frames_settings None found = settings_in greatest_moment found
-frames_settings (Some path) found = settings_in CAPTURE_END found
+-- the settings of the values that are given to `frames` or `draw`: with a capture the moment to run to is one of a replay
+abbrev pub settings_beside : Option (List ℕ) → Found → Result Setup BadValue
+settings_beside None found = settings_in greatest_moment found
+settings_beside (Some path) found = settings_in CAPTURE_END found
 
 -- The end of a run on a script and a capture that the words name: that of the script and of some octets, since what a file gives is not known, or of the
 -- path that can't be opened; or of a value that is bad, which comes first, and that of the capture's form after the port's.
@@ -199,6 +201,21 @@ IsGivenTable (Err value) (Some path) input ended old got errors_old errors_new =
 
 -- the end of a run of `frames`, where the words name a capture or none: a table of streams does not go with one
 abbrev pub IsGivenFrames : Found → (capture streams : Option (List ℕ)) → Option (List ℕ) → Ended → (old got errors_old errors_new : Option (List ℕ)) → Type 0
-IsGivenFrames found None streams input ended old got errors_old errors_new = IsGivenTable (frames_settings None found) streams input ended old got errors_old errors_new
+IsGivenFrames found None streams input ended old got errors_old errors_new = IsGivenTable (settings_beside None found) streams input ended old got errors_old errors_new
 IsGivenFrames found (Some path) streams input ended old got errors_old errors_new =
-    IsGivenCapture (frames_settings (Some path) found) (form_in found) path input ended old got errors_old errors_new
+    IsGivenCapture (settings_beside (Some path) found) (form_in found) path input ended old got errors_old errors_new
+
+-- The end of a picture of a script and a capture that the words name, by the values of the port, then by those of the picture, then by those of the capture's
+-- form, the first bad one of which is told: that of the script and of some octets, since what a file gives is not known, or of the path that can't be opened.
+abbrev pub IsPictureBeside : Result Setup BadValue → Result DrawOptions BadValue → Result CaptureForm BadForm → List ℕ → Option (List ℕ) → Ended → (old got errors_old errors_new : Option (List ℕ)) → Type 0
+IsPictureBeside (Err value) options form path input ended old got errors_old errors_new = IsRefusal value ended old got errors_old errors_new
+IsPictureBeside (Ok setup) (Err value) form path input ended old got errors_old errors_new = IsRefusal value ended old got errors_old errors_new
+IsPictureBeside (Ok setup) (Ok options) (Err bad) path input ended old got errors_old errors_new = IsUnanswered 2 (form_text bad) ended old got errors_old errors_new
+IsPictureBeside (Ok setup) (Ok options) (Ok form) path input ended old got errors_old errors_new =
+    ((capture : Option (List ℕ)) × IsCapturePicture setup options input capture ended old got errors_old errors_new) ⊎ IsUnanswered 4 (open_text path) ended old got errors_old errors_new
+
+-- the end of a run of `draw`, where the words name a capture or none
+abbrev pub IsGivenPicture : Found → (capture : Option (List ℕ)) → Option (List ℕ) → Ended → (old got errors_old errors_new : Option (List ℕ)) → Type 0
+IsGivenPicture found None input ended old got errors_old errors_new = IsDrawEnding (settings_beside None found) (draws_in found) input ended old got errors_old errors_new
+IsGivenPicture found (Some path) input ended old got errors_old errors_new =
+    IsPictureBeside (settings_beside (Some path) found) (draws_in found) (form_in found) path input ended old got errors_old errors_new

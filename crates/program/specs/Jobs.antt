@@ -19,13 +19,12 @@ use Rattle.script.specs.Setup.{Setup}
 use Rattle.script.specs.declared.settings.BadValue.{BadValue}
 use Rattle.schedule_check.specs.Checked.{whole_check}
 use Rattle.schedule_check.specs.Windows.{IsTeller, Teller}
-use Rattle.drawing.specs.PictureEnd.{IsDrawEnding}
 use Rattle.replay.specs.Texts.{open_text}
 use Rattle.replay.specs.Timing.{timing_text}
 use Rattle.replay.specs.Words.{IsReplayEnding, got}
 use Rattle.replay.specs.declared.timing.BadTiming.{BadTiming}
 use Rattle.replay.specs.declared.timing.Timing.{Timing}
-use Rattle.program.specs.Given.{IsGivenBounds, IsGivenFrames, IsGivenPaths, IsGivenPlan, IsGivenStreams, flag_in, bounds_in, draws_in, checks_in, is_strict, memory_text, over_input_text, plan_in, settings_in, timing_in}
+use Rattle.program.specs.Given.{IsGivenBounds, IsGivenFrames, IsGivenPaths, IsGivenPicture, IsGivenPlan, IsGivenStreams, flag_in, bounds_in, checks_in, is_strict, memory_text, over_input_text, plan_in, settings_in, timing_in}
 use Rattle.program.specs.Compared.{IsGivenCompare, compare_in}
 use Rattle.program.specs.Plain.{input_of}
 use Rattle.program.specs.Reading.{form_in, form_text, read_as}
@@ -88,7 +87,7 @@ IsJobEnding Names.Paths found input ended old new errors_old errors_new =
 IsJobEnding Names.Plan found input ended old new errors_old errors_new =
     IsGivenPlan (settings_in greatest_moment found) (flag_in (codes "explain") found) (first_value found (codes "table")) ended old new errors_old errors_new
 IsJobEnding Names.Draw found input ended old new errors_old errors_new =
-    IsDrawEnding (settings_in greatest_moment found) (draws_in found) input ended old new errors_old errors_new
+    IsGivenPicture found (first_value found (codes "capture")) input ended old new errors_old errors_new
 IsJobEnding Names.Frames found input ended old new errors_old errors_new =
     IsGivenFrames found (first_value found (codes "capture")) (first_value found (codes "by-stream")) input ended old new errors_old errors_new
 IsJobEnding Names.Compare found input ended old new errors_old errors_new = IsGivenCompare (compare_in found) ended old new errors_old errors_new

@@ -67,8 +67,8 @@ rules_of Names.Plan =
     ∷ option (codes "least-interval") ∷ option (codes "device") ∷ option (codes "base-time") ∷ flag (codes "share")
     ∷ flag (codes "explain") ∷ file (codes "table") ∷ []
 rules_of Names.Draw =
-    option (codes "rate") ∷ option (codes "mtu") ∷ option (codes "room") ∷ option (codes "until") ∷ option (codes "from")
-    ∷ option (codes "to") ∷ option (codes "width") ∷ flag (codes "tolerant") ∷ option (codes "device") ∷ flag (codes "strict") ∷ flag (codes "explain") ∷ []
+    option (codes "rate") ∷ option (codes "mtu") ∷ option (codes "room") ∷ option (codes "until") ∷ option (codes "capture") ∷ option (codes "format") ∷ option (codes "fcs")
+    ∷ option (codes "from") ∷ option (codes "to") ∷ option (codes "width") ∷ flag (codes "tolerant") ∷ option (codes "device") ∷ flag (codes "strict") ∷ flag (codes "explain") ∷ []
 rules_of Names.Frames =
     option (codes "rate") ∷ option (codes "mtu") ∷ option (codes "room") ∷ option (codes "until")
     ∷ excluding (option (codes "capture")) ∷ option (codes "format") ∷ option (codes "fcs") ∷ option (codes "by-stream") ∷ flag (codes "tolerant") ∷ option (codes "device") ∷ flag (codes "strict") ∷ flag (codes "explain") ∷ []

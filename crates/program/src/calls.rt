@@ -9,22 +9,22 @@ ghost use Rattle.program.specs.Strict.{IsWatchedJob};
 ghost use Rattle.schedule_check.specs.Alerts as Checks;
 ghost use Rattle.schedule_check.specs.Checked.{whole_check};
 ghost use Rattle.schedule_check.specs.Windows.{IsTeller, Teller};
-ghost use Rattle.drawing.specs.PictureEnd.{IsDrawEnding};
 ghost use Rattle.program.specs.Plain.{input_of, lines_in};
 ghost use Rattle.program.specs.Table.{name_of};
-ghost use Rattle.program.specs.Given.{checks_in, draws_in, settings_in};
+ghost use Rattle.program.specs.Given.{checks_in, settings_in};
 ghost use Rattle.script.specs.Alerts as Scripts;
 ghost use Rattle.script.specs.ScriptEnd.{IsEnding, whole_script};
 ghost use Rattle.wire_time.specs.Moment.{greatest_moment};
 
 use crate::bounds_call::bounds_given;
 use crate::compare_call::compare_given;
+use crate::draw_call::draw_given;
 use crate::end_forgotten;
 use crate::frames_call::frames_given;
 use crate::job_name::JobName;
 use crate::noted::Noted;
 use crate::onlooker::{FaultText, Onlooker};
-use crate::options::{JOBS, checks_of, command, draws_of, is_given, looks_of, value_of, values_of};
+use crate::options::{JOBS, checks_of, command, is_given, looks_of, value_of, values_of};
 use crate::paths_call::paths_given;
 use crate::piped::Piped;
 use crate::plain_input::{PassedOver, changes_lines, plain_reader};
@@ -34,7 +34,6 @@ use crate::replay_call::{first_octets, replay_given};
 use crate::streams_call::streams_given;
 use clap::error::ErrorKind;
 use clap::{ArgMatches, Error};
-use drawing::answer_draw;
 use hints::{put_others, put_passed};
 use job::{Ended, Errors, end_told};
 use schedule_check::answer_check;
@@ -86,36 +85,6 @@ pub fn check_given<B: Allocator, R: Read, W: Write + Drop, E: Errors, H: Watch>(
     ensures unread { IfErr (checks_in (found_of matches.now)) (λ _. reader.new ≡ reader.old) }
 {
     answer_check(alloc, checks_of(matches), reader, answers, errors, watch)
-}
-
-/// Draws the run of the script that `reader` gives, by the values that the words give to the options, through
-/// `answers`, with the text of a fault on `errors`; and gives the writer of the answers back. At a fault of the script
-/// nothing is drawn.
-pub fn draw_given<B: Allocator, R: Read, W: Write + Drop, E: Errors, H: Watch>(
-    alloc: Global,
-    matches: &ArgMatches<'_>,
-    reader: &mut R,
-    answers: BufWriter<W, B>,
-    errors: &mut E,
-    watch: &mut H,
-) -> (Ended, W)
-    ensures ending { IsDrawEnding (settings_in greatest_moment (found_of matches.now))
-        (draws_in (found_of matches.now)) (R.remaining reader.old) result.0
-        (writer_contents W.contents answers) (W.contents result.1) (E.contents errors.old)
-        (E.contents errors.new) }
-    ensures unread { IfErr (settings_in greatest_moment (found_of matches.now))
-        (λ _. reader.new ≡ reader.old) }
-    ensures unused { IfErr (draws_in (found_of matches.now)) (λ _. reader.new ≡ reader.old) }
-{
-    answer_draw(
-        alloc,
-        values_of(matches),
-        draws_of(matches),
-        reader,
-        answers,
-        errors,
-        watch,
-    )
 }
 
 /// Reports a text of words that are refused on `errors`, and gives the writer of the answers back. Nothing is answered.
@@ -201,7 +170,9 @@ fn answer_job<F: Files, B: Allocator, R: Read, W: Write + Drop, E: Errors, H: Wa
         JobName::Bounds => bounds_given(files, alloc, matches, reader, answers, errors, watch),
         JobName::Paths => paths_given(files, alloc, matches, reader, answers, errors, watch),
         JobName::Plan => plan_for(files, alloc, matches, answers, errors, watch),
-        JobName::Draw => draw_given(alloc, matches, reader, answers, errors, watch),
+        JobName::Draw => draw_given(
+            files, alloc, matches, reader, answers, errors, watch, noted,
+        ),
         JobName::Frames => frames_given(
             files, alloc, matches, reader, answers, errors, watch, noted,
         ),

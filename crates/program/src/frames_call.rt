@@ -5,7 +5,7 @@ ghost use Rattle.std.specs.Prelude.{◌≡◌, IfErr, IfOk, Some, codes};
 ghost use Rattle.text.specs.Buffered.{writer_contents};
 ghost use Rattle.clap.specs.Matches.{first_value, found_of};
 ghost use Rattle.capture.specs.declared.writer.TheConstants.{CAPTURE_END};
-ghost use Rattle.program.specs.Given.{IsGivenCapture, IsGivenFrames, IsGivenTable, frames_settings, settings_in};
+ghost use Rattle.program.specs.Given.{IsGivenCapture, IsGivenFrames, IsGivenTable, settings_beside, settings_in};
 ghost use Rattle.program.specs.Reading.{form_in};
 ghost use Rattle.program.specs.Strict.{IsWatchedBeside, IsWatchedByFiles, IsWatchedTable};
 ghost use Rattle.wire_time.specs.Moment.{greatest_moment};
@@ -131,7 +131,7 @@ pub fn frames_given<F: Files, B: Allocator, R: Read, W: Write + Drop, E: Errors,
         (first_value (found_of matches.now) (codes "capture"))
         (first_value (found_of matches.now) (codes "by-stream"))
         (R.remaining reader.old) result.0 watch.old watch.new }
-    ensures unread { IfErr (frames_settings (first_value (found_of matches.now) (codes "capture"))
+    ensures unread { IfErr (settings_beside (first_value (found_of matches.now) (codes "capture"))
         (found_of matches.now)) (λ _. reader.new ≡ reader.old) }
 {
     match matches.get_str("capture") {

@@ -19,6 +19,7 @@ mod calls;
 mod capture_input;
 mod compare_call;
 mod devices;
+mod draw_call;
 mod early;
 mod frames_call;
 mod job_name;
@@ -38,7 +39,8 @@ mod streams_call;
 
 pub use bounds_call::bounds_given;
 use calls::answer_words;
-pub use calls::{answer_given, check_given, draw_given};
+pub use calls::{answer_given, check_given};
+pub use draw_call::draw_given;
 pub use frames_call::frames_given;
 use job::{Ended, end_told, say_fault};
 pub use laws::replay_words;

@@ -610,6 +610,14 @@ const CAPTURE_OF_FRAMES: Word = Word {
     without: Some("by-stream"),
 };
 
+const CAPTURE_DRAWN: Word = Word {
+    given: Given::Value,
+    name: "capture",
+    value: "CAPTURE",
+    help: "A file with a capture: its frames are drawn, run beside the script as by replay, until no frame can start any more",
+    without: None,
+};
+
 const CAPTURE_OF_TABLE: Word = Word {
     given: Given::Value,
     name: "capture",
@@ -749,12 +757,15 @@ pub(crate) const JOBS: [Job; 10] = [
     },
     Job {
         name: JobName::Draw,
-        about: "Draws the run of a script on standard input, as an SVG picture",
+        about: "Draws the run of a script on standard input, or of it and a capture, as an SVG picture",
         words: &[
             RATE,
             MTU,
             ROOM,
             UNTIL,
+            CAPTURE_DRAWN,
+            FORMAT,
+            FCS,
             FROM,
             TO,
             WIDTH,

@@ -2,7 +2,7 @@ use Rattle.std.proofs.Common.{◌≡◌, List, ℕ, Option, subst}
 use Rattle.text.specs.Buffered.{writer_contents}
 use Rattle.std.specs.Prelude.{IfErr, codes}
 use Rattle.clap.specs.Matches.{first_value, found_of}
-use Rattle.program.specs.Given.{IsGivenFrames, frames_settings}
+use Rattle.program.specs.Given.{IsGivenFrames, settings_beside}
 use Rattle.program.specs.Strict.{IsWatchedByFiles}
 use Rattle.program.proofs.frames_call.frames_given.Goals as goal
 
@@ -13,7 +13,7 @@ returns-in-None-clause-ending g c =
     out.ensures.ending
 
 pub returns-in-None-clause-unread : goal.returns-in-None-clause-unread
-returns-in-None-clause-unread g c = subst (λ (capture : Option (List ℕ)). IfErr (frames_settings capture (found_of c.args.matches.now)) (λ _. c.frames_of_script.new.reader ≡ c.args.reader.now)) c.in-None.ensures c.frames_of_script.ensures.unread
+returns-in-None-clause-unread g c = subst (λ (capture : Option (List ℕ)). IfErr (settings_beside capture (found_of c.args.matches.now)) (λ _. c.frames_of_script.new.reader ≡ c.args.reader.now)) c.in-None.ensures c.frames_of_script.ensures.unread
 
 pub returns-in-Some-clause-ending : goal.returns-in-Some-clause-ending
 returns-in-Some-clause-ending g c =
@@ -22,7 +22,7 @@ returns-in-Some-clause-ending g c =
     out.ensures.ending
 
 pub returns-in-Some-clause-unread : goal.returns-in-Some-clause-unread
-returns-in-Some-clause-unread g c = subst (λ (capture : Option (List ℕ)). IfErr (frames_settings capture (found_of c.args.matches.now)) (λ _. c.frames_of_capture.new.reader ≡ c.args.reader.now)) c.in-Some.ensures c.frames_of_capture.ensures.unread
+returns-in-Some-clause-unread g c = subst (λ (capture : Option (List ℕ)). IfErr (settings_beside capture (found_of c.args.matches.now)) (λ _. c.frames_of_capture.new.reader ≡ c.args.reader.now)) c.in-Some.ensures c.frames_of_capture.ensures.unread
 
 pub returns-in-None-clause-watched : goal.returns-in-None-clause-watched
 returns-in-None-clause-watched g c =

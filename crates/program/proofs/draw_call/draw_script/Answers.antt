@@ -5,7 +5,7 @@ use Rattle.script.specs.ScriptEnd.{settings_given}
 use Rattle.script.specs.Given.{GivenWords}
 use Rattle.drawing.specs.Given.{DrawWords}
 use Rattle.drawing.specs.Options.{options_of}
-use Rattle.program.proofs.calls.draw_given.Goals as goal
+use Rattle.program.proofs.draw_call.draw_script.Goals as goal
 
 pub returns-clause-unread : goal.returns-clause-unread
 returns-clause-unread g c =
