@@ -27,3 +27,8 @@ meaning_where meaning None octets = octets
 abbrev pub outlook : {R T A : Type 0} → (R → Option (List ℕ)) → (T → List ℕ → List ℕ) → Translated R T A → Option (List ℕ)
 outlook remaining meaning t = prepend_known (drop t.given t.turned.items)
     (option_map (meaning t.translation) (prepend_known (held t.hand) (remaining t.source)))
+
+-- What comes from the source is given as it is: nothing is in hand, and octets mean what they are.
+pub record Passes {R T A : Type 0} (meaning : T → List ℕ → List ℕ) (t : Translated R T A) : Type 0 where
+  pub empty : held t.hand ≡ []
+  pub plain : (octets : List ℕ) → meaning t.translation octets ≡ octets

@@ -1,21 +1,23 @@
 //! The octets that were read and not yet taken.
 
-ghost use Rattle.std.specs.Prelude.{◌≡◌, ◌≤◌, [], drop, length, IfOk, vec_len};
-ghost use Rattle.std.specs.Io.KnownBytes.{Keeps, IsAtEnd, prepend_known};
+ghost use Rattle.std.specs.Prelude.{◌≡◌, ◌≤◌, ◌<◌, ◌+◌, [], drop, length, take, IfOk, IsTrue, OnOk, vec_len};
+ghost use Rattle.std.specs.Io.KnownBytes.{Keeps, IsAtEnd, ReadConsumes, prepend_known};
 
-use std::alloc::{Allocator, Global};
+use std::alloc::{AllocError, Allocator, Global};
 use std::io;
 use std::io::Read;
 
 /// How many octets are read at once.
 const CHUNK: usize = 16_384;
 
-/// Octets that were read and not yet taken: `octets[start..]`. They lie in one piece.
+/// Octets that were read and not yet taken: `octets[start..end]`. They lie in one piece. What stands behind them is room
+/// for more, which is filled once, when it is taken.
 #[derive(Drop)]
 pub(crate) struct Hand<A: Allocator = Global> {
     octets: Vec<u8, A>,
     start: usize,
-    ghost within: { start ≤ vec_len octets },
+    end: usize,
+    ghost within: { (start ≤ end) × (end ≤ vec_len octets) },
 }
 
 impl<A: Allocator> Hand<A> {
@@ -28,6 +30,7 @@ impl<A: Allocator> Hand<A> {
         Hand {
             octets: Vec::new(alloc),
             start: 0,
+            end: 0,
         }
     }
 
@@ -35,9 +38,16 @@ impl<A: Allocator> Hand<A> {
     pub fn octets(&self) -> &[u8]
         ensures { result.now ≡ held self.now }
     {
-        let start = self.start;
+        let (start, end) = (self.start, self.end);
         let all = self.octets.as_slice();
-        &all[start..]
+        &all[start..end]
+    }
+
+    /// Whether none is held.
+    pub fn is_empty(&self) -> bool
+        ensures { IsTrue result → held self.now ≡ [] }
+    {
+        self.start == self.end
     }
 
     /// Takes octets from the front of those that are held.
@@ -53,11 +63,22 @@ impl<A: Allocator> Hand<A> {
         ensures held { held self.new ≡ held self.old }
         ensures start { self.new.start ≡ 0 }
     {
-        let start = self.start;
-        let count = self.octets.len() - start;
-        self.octets.copy_within(start.., 0);
-        self.octets.truncate(count);
+        let (start, end) = (self.start, self.end);
+        self.octets.copy_within(start..end, 0);
         self.start = 0;
+        self.end = end - start;
+    }
+
+    /// Takes room for a chunk behind what is held, where there is less.
+    fn make_room(&mut self) -> Result<(), AllocError>
+        ensures held { held self.new ≡ held self.old }
+        ensures room { OnOk result (self.new.end < vec_len self.new.octets) }
+    {
+        let wanted = self.end.saturating_add(CHUNK);
+        if self.octets.len() < wanted {
+            self.octets.resize(wanted, 0)?;
+        }
+        Ok(())
     }
 
     /// Reads once, behind what is held. How many octets came: none where the source has ended.
@@ -68,22 +89,22 @@ impl<A: Allocator> Hand<A> {
         ensures more { IfOk result (λ count. count ≡ 0 → held self.new ≡ held self.old) }
     {
         self.pull();
-        read_behind(&mut self.octets, source)
+        self.make_room()?;
+        let end = self.end;
+        let count = read_behind(self.octets.as_mut_slice(), end, source)?;
+        self.end = end + count;
+        Ok(count)
     }
 }
 
-/// Reads once, and adds what comes. When out of memory, nothing is read.
-fn read_behind<A: Allocator, R: Read>(octets: &mut Vec<u8, A>, source: &mut R) -> io::Result<usize>
-    ensures octets { Keeps (prepend_known octets.old.items (R.remaining source.old))
-        (prepend_known octets.new.items (R.remaining source.new)) }
-    ensures ended { IfOk result (λ count. count ≡ 0 → IsAtEnd (R.remaining source.new)) }
-    ensures more { IfOk result (λ count. count ≡ 0 → octets.new.items ≡ octets.old.items) }
+/// Reads once, into the place behind the first octets.
+fn read_behind<R: Read>(octets: &mut [u8], first: usize, source: &mut R) -> io::Result<usize>
+    requires { first < length octets.old }
+    ensures front { take first octets.new ≡ take first octets.old }
+    ensures len { length octets.new ≡ length octets.old }
+    ensures within { IfOk result (λ count. first + count ≤ length octets.new) }
+    ensures read { ReadConsumes (R.remaining source.old)
+        (R.remaining source.new) result (drop first octets.new) }
 {
-    octets.reserve(CHUNK)?;
-    let mut chunk = [0u8; CHUNK];
-    let count = source.read(&mut chunk)?;
-    if octets.extend_from_slice(&chunk[..count]).is_err() {
-        unreachable!();
-    }
-    Ok(count)
+    source.read(&mut octets[first..])
 }

@@ -1,6 +1,6 @@
 //! A reader that gives what another one's octets are turned into.
 
-ghost use Rattle.std.specs.Prelude.{◌≡◌, ◌≤◌, ◌++◌, [], drop, length, min, take, true, option_map, vec_len, IfOk, OnOk};
+ghost use Rattle.std.specs.Prelude.{◌≡◌, ◌≤◌, ◌++◌, [], drop, length, min, take, true, option_map, vec_len, IfOk, IsTrue, OnOk};
 ghost use Rattle.std.specs.Io.{ReadsAtMost};
 ghost use Rattle.std.specs.Io.KnownBytes.{IsAtEnd, Keeps, ReadConsumes};
 
@@ -24,7 +24,7 @@ pub struct Translated<R, T, A: Allocator = Global> {
 }
 
 impl<R: Read, T: Translation, A: Allocator> Translated<R, T, A> {
-    ghost use Rattle.translated.specs.Outlook.{outlook};
+    ghost use Rattle.translated.specs.Outlook.{Passes, outlook};
 
     /// A reader of what comes from `source`. It takes no memory, and reads nothing yet.
     pub fn new(hand: A, turned: A, source: R, translation: T) -> Translated<R, T, A>
@@ -113,6 +113,24 @@ impl<R: Read, T: Translation, A: Allocator> Translated<R, T, A> {
         Err(io::Error::from(io::ErrorKind::Interrupted))
     }
 
+    /// Whether what comes from the source is given as it is, from here on.
+    fn passes(&self) -> bool
+        ensures { IsTrue result → Passes T.meaning self.now }
+    {
+        self.hand.is_empty() && self.translation.passes()
+    }
+
+    /// Reads what comes from the source, as it is.
+    fn pass(&mut self, buf: &mut [u8]) -> io::Result<usize>
+        requires given { drop self.old.given self.old.turned.items ≡ [] }
+        requires passes { Passes T.meaning self.old }
+        ensures bound { ReadsAtMost result buf.new }
+        ensures bytes { ReadConsumes (outlook R.remaining T.meaning self.old)
+            (outlook R.remaining T.meaning self.new) result buf.new }
+    {
+        self.source.read(buf)
+    }
+
     /// Gives what is put, as far as there is room for it.
     fn give(&mut self, buf: &mut [u8]) -> usize
         ensures count { result ≡ min (length buf.new)
@@ -147,9 +165,13 @@ impl<R: Read, T: Translation, A: Allocator> Read for Translated<R, T, A> {
         if buf.is_empty() {
             return Ok(0);
         }
-        if self.waiting() == 0 {
-            self.fill()?;
+        if self.waiting() > 0 {
+            return Ok(self.give(buf));
         }
+        if self.passes() {
+            return self.pass(buf);
+        }
+        self.fill()?;
         Ok(self.give(buf))
     }
 }

@@ -35,6 +35,13 @@ pub trait Translation {
     {
         false
     }
+
+    /// Whether all octets that are still to come are put as they are. Who knows it says so, and then they aren't copied.
+    fn passes(&self) -> bool
+        ensures { IsTrue result → (octets : List ℕ) → meaning self.now octets ≡ octets }
+    {
+        false
+    }
 }
 
 impl<T: Translation> Translation for &mut T {
@@ -51,6 +58,10 @@ impl<T: Translation> Translation for &mut T {
 
     fn is_over(&self) -> bool {
         (**self).is_over()
+    }
+
+    fn passes(&self) -> bool {
+        (**self).passes()
     }
 }
 
@@ -79,6 +90,13 @@ impl<T: Translation> Translation for Option<T> {
         match self {
             Some(translation) => translation.is_over(),
             None => false,
+        }
+    }
+
+    fn passes(&self) -> bool {
+        match self {
+            Some(translation) => translation.passes(),
+            None => true,
         }
     }
 }
