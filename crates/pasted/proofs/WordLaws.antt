@@ -1,5 +1,5 @@
 -- The words of a line, one after another.
-use Rattle.std.proofs.Common.{◌≡◌, ◌<◌, ◌≤◌, ◌+◌, ◌-◌, ◌++◌, ℕ, Bool, true, false, List, [], ◌∷◌, suc, length, take, drop, refl, sym, ap, ◌∙◌, append_assoc, arith, if◌then◌else◌}
+use Rattle.std.proofs.Common.{◌≡◌, ◌<◌, ◌+◌, ◌-◌, ◌++◌, ℕ, Bool, true, false, List, [], ◌∷◌, suc, length, take, drop, refl, sym, ap, ◌∙◌, append_assoc, arith, if◌then◌else◌}
 use Rattle.std.specs.Prelude.{not, ◌&&◌, ◌||◌, ◌==◌, codes}
 use Rattle.std.specs.Str.{bytes_eq}
 use Rattle.text.specs.Numbers.{is_digits}
@@ -8,10 +8,10 @@ use Rattle.std.proofs.Math.Path.{ap₂}
 use Rattle.std.proofs.lemmas.Bool.{ne_eqb}
 use Rattle.std.proofs.lemmas.List.{append-nil, length-append, length-drop}
 use Rattle.text.specs.Words.{is_blank}
-use Rattle.pasted.specs.Plain.{behind_word, first_unquoted, first_word, indent, is_assist, is_kind, is_quoted, kept_words, option_role, past_blanks, next_role, roles, stays, unquoted, words_apart}
-use Rattle.pasted.specs.Notes.{has_quoted, is_delay, is_fp, is_txtime, marks_of_words, with_word}
+use Rattle.pasted.specs.Plain.{behind_word, first_unquoted, first_word, indent, is_assist, is_kind, is_quoted, kept_words, option_role, next_role, roles, stays, unquoted, words_apart}
+use Rattle.pasted.specs.Notes.{has_quoted, is_delay, is_fp, is_txtime, with_word}
 use Rattle.pasted.specs.declared.roles.Role.{Role}
-use Rattle.pasted.specs.declared.roles.Role.TheVariants.{Stays, Fp, Delay, Assist, Value}
+use Rattle.pasted.specs.declared.roles.Role.TheVariants.{Stays, Fp, Delay, Assist}
 use Rattle.pasted.specs.declared.note.Marks.{Marks}
 
 some : (n m : ℕ) → 0 < n + m → (n + m == 0) ≡ false

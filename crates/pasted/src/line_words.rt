@@ -1,7 +1,7 @@
 //! The words of a line of a command: quotation marks around them, and options that are left out.
 
 ghost use Rattle.std.specs.Prelude.{◌≡◌, ◌<◌, ◌++◌, ◌∷◌, [], IfOk, IfSome, MatchOption, length};
-ghost use Rattle.pasted.specs.Plain.{first_unquoted, is_quoted, kept_words, next_role, plain_words, roles, unquoted, words_apart};
+ghost use Rattle.pasted.specs.Plain.{first_unquoted, is_quoted, next_role, plain_words, unquoted, words_apart};
 ghost use Rattle.pasted.specs.Notes.{marks_of_words};
 
 use crate::note::Marks;

@@ -1,4 +1,4 @@
-use Rattle.std.proofs.Common.{◌≡◌, rules}
+use Rattle.std.proofs.Common.{rules}
 use Rattle.pasted.proofs.WordLaws.{first_is}
 use Rattle.pasted.proofs.line_words.role_before.Goals as goal
 

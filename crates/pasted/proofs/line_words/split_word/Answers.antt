@@ -1,5 +1,4 @@
-use Rattle.std.proofs.Common.{◌≡◌, ◌<◌, ap, sym, ◌∙◌, length, rules, subst, ℕ, List, ◌∷◌, []}
-use Rattle.pasted.specs.Plain.{words_apart}
+use Rattle.std.proofs.Common.{◌<◌, length, rules}
 use Rattle.pasted.proofs.WordLaws.{behind_less, words_first}
 use Rattle.pasted.proofs.line_words.split_word.Goals as goal
 
