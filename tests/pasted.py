@@ -8,6 +8,7 @@ CASES = pathlib.Path(__file__).resolve().parent / "imports" / "pasted_lines.toml
 KINDS = {
     "byte_order": "a byte order mark", "prompt": "the prompt of a shell", "sudo": "sudo", "path": "the path of tc",
     "blanks": "blanks behind a backslash", "quotes": "quotation marks", "semicolon": "semicolons",
+    "fp": "fp (frame preemption)", "txtime_delay": "txtime-delay", "txtime_assist": "flags 0x1 (txtime assist)",
 }
 
 
@@ -48,7 +49,7 @@ def case_pasted_lines_answer_as_the_plain_ones(program):
         if given.status == 0:
             assert said == warnings_of(case), (case["name"], said, warnings_of(case))
         tried += 1
-    assert tried >= 50, tried
+    assert tried >= 65, tried
 
 
 def case_each_job_reads_pasted_lines(program):

@@ -161,7 +161,9 @@ tc qdisc add dev eth1 root taprio sched-entry S ff 0001000 flags 0x2 max-sdu 5 0
             (front + "base-time 5us", "line 2, word 8", "a decimal number from 0", "BadNumber 8"),
             (front + "base-time", "line 2", "a word behind base-time", "MissingWord base-time"),
             (front + "sched-entry SH 01 5", "line 2, word 8", "preemption", "Unsupported sched-entry"),
-            (front + "fp E P", "line 2, word 7", "an option that is modelled", "Unsupported fp"),
+            (front + "fp E P", "line 2, word 7", "fp says which classes are preemptible", "Unsupported fp"),
+            (front + "txtime-delay 5", "line 2, word 7", "txtime-delay is for launch times", "Unsupported txtime-delay"),
+            (front + "flags 0x1", "line 2, word 8", "1 asks for launch times", "Unsupported flags"),
             (front + "num_tc 1 map 0", "line 2", "a sched-entry", "NoEntries"),
         ):
             with self.subTest(line):

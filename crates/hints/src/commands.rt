@@ -99,9 +99,12 @@ fn unserved(option: Opt) -> &'static [u8] {
     match option {
         Opt::SchedEntry =>
             b"an entry sets gates: sched-entry S MASK NS. Hold and release (H, R) are frame preemption",
-        Opt::Flags => b"flags is 0 or 2: a launch time (txtime assist) isn't modelled",
-        Opt::TxtimeDelay => b"a launch time (txtime assist) isn't modelled",
-        Opt::Fp => b"frame preemption isn't modelled",
+        Opt::Flags =>
+            b"flags is 0 or 2: 1 asks for launch times (txtime assist), and sets no gate. Leave out both words, or give --tolerant",
+        Opt::TxtimeDelay =>
+            b"txtime-delay is for launch times (txtime assist), and sets no gate. Leave out both words, or give --tolerant",
+        Opt::Fp =>
+            b"fp says which classes are preemptible (frame preemption), and sets no gate. Leave out fp and its letters, or give --tolerant",
         _ => b"the port has no such option",
     }
 }

@@ -37,7 +37,15 @@ pub fn put_passed<W: Write>(writer: &mut W, note: &Note) -> Result<(), WriteFaul
     put_kind(writer, b"the path of tc", b"", note.path)?;
     put_kind(writer, b"blanks behind a backslash", b"", note.blanks)?;
     put_kind(writer, b"quotation marks", b"", note.quotes)?;
-    put_kind(writer, b"semicolons", b"", note.semicolon)
+    put_kind(writer, b"semicolons", b"", note.semicolon)?;
+    put_kind(writer, b"fp (frame preemption)", b"", note.fp)?;
+    put_kind(writer, b"txtime-delay", b"", note.txtime_delay)?;
+    put_kind(
+        writer,
+        b"flags 0x1 (txtime assist)",
+        b"",
+        note.txtime_assist,
+    )
 }
 
 /// Writes how many lines of other devices were passed over, if any was.

@@ -11,7 +11,10 @@ use Rattle.text.specs.Words.{is_blank}
 use Rattle.pasted.specs.Device.{device_rule, is_of_other, line_feeds}
 use Rattle.pasted.specs.Laws.{feeds}
 use Rattle.pasted.specs.Lines.{each_line, is_long, next_place, turned_line}
-use Rattle.pasted.specs.Plain.{begins_command, behind_word, body, command, ending, first_word, has_long_prompt, has_mark, has_more_prompt, has_sudo, indent, is_joined, is_option, is_prompt, is_quoted, next_word, past_blanks, past_more_prompt, past_option, past_prompt, past_sudo, plain_command, plain_line, plain_more, plain_rule, unblank_length, unended_length, unmarked, unquoted, unquoted_words}
+use Rattle.pasted.specs.Plain.{begins_command, behind_word, body, command, ending, first_unquoted, first_word, has_long_prompt, has_mark, has_more_prompt, has_sudo, indent, is_joined, is_option, is_prompt, is_quoted, kept_words, next_role, next_word, past_blanks, past_more_prompt, past_option, past_prompt, past_sudo, plain_command, plain_line, plain_more, plain_rule, plain_words, stays, unblank_length, unended_length, unmarked, unquoted, words_apart}
+use Rattle.pasted.proofs.WordLaws.{apart_same, as_they_stand}
+use Rattle.pasted.specs.declared.roles.Role.{Role}
+use Rattle.pasted.specs.declared.roles.Role.TheVariants.{Stays}
 use Rattle.pasted.specs.declared.place.Place.{Place}
 use Rattle.pasted.specs.declared.place.Place.TheVariants.{First, Begin, Command, Other}
 
@@ -59,15 +62,23 @@ one_octet b e = record { none = ap (λ t. 0 + (if t then 1 else 0)) e }
 one_unquoted : (word : List ℕ) → IsOne word → IsOne (unquoted word)
 one_unquoted word is = one_if (is_quoted word) (take (length word - 2) (drop 1 word)) word (one_take (length word - 2) (drop 1 word) (one_drop 1 word is)) is
 
-one_words : (word xs : List ℕ) → IsOne word → IsOne xs → IsOne (unquoted_words word xs)
-one_words word [] is also = one_unquoted word is
-one_words word (b ∷ bs) is also =
-    let first = one_take 1 (b ∷ bs) also in
-    let rest = one_drop 1 (b ∷ bs) also in
-    let more = one_words [] bs (record { none = refl }) rest in
-    one_if (is_blank b) (unquoted word ++ (b ∷ unquoted_words [] bs)) (unquoted_words (word ++ b ∷ []) bs)
-    (one_append (unquoted word) (b ∷ unquoted_words [] bs) (one_unquoted word is) (one_append (b ∷ []) (unquoted_words [] bs) first more))
-    (one_words (word ++ b ∷ []) bs (one_append word (b ∷ []) is first) rest)
+one_front : (xs ys : List ℕ) → IsOne (xs ++ ys) → IsOne xs
+one_front xs ys is = record { none = omega (arith, is.none, feeds_append xs ys) }
+
+one_back : (xs ys : List ℕ) → IsOne (xs ++ ys) → IsOne ys
+one_back xs ys is = record { none = omega (arith, is.none, feeds_append xs ys) }
+
+one_kept : (role : Role) (xs : List (List ℕ × List ℕ)) → IsOne (as_they_stand xs) → IsOne (kept_words role xs)
+one_kept role [] is = is
+one_kept role (x ∷ xs) is =
+    let next = next_role role (unquoted x.1) (first_unquoted xs) in
+    let rest = one_back x.0 (x.1 ++ as_they_stand xs) is in
+    one_append (if stays next then x.0 ++ unquoted x.1 else []) (kept_words next xs)
+    (one_if (stays next) (x.0 ++ unquoted x.1) [] (one_append x.0 (unquoted x.1) (one_front x.0 (x.1 ++ as_they_stand xs) is) (one_unquoted x.1 (one_front x.1 (as_they_stand xs) rest))) (record { none = refl }))
+    (one_kept next xs (one_back x.1 (as_they_stand xs) rest))
+
+one_words : (xs : List ℕ) → IsOne xs → IsOne (plain_words xs)
+one_words xs is = one_kept Stays (words_apart [] [] xs) (record { none = ap feeds (apart_same [] [] xs) ∙ is.none })
 
 one_past : (xs : List ℕ) → IsOne xs → IsOne (past_blanks xs)
 one_past xs is = one_drop (prefix_len is_blank xs) xs is
@@ -125,15 +136,15 @@ one_begun : (line : List ℕ) → IsOne line → IsOne (plain_command line)
 one_begun line is =
     let octets = command (body line) in
     let here = one_command (body line) (one_body line is) in
-    let words = unquoted_words [] (behind_word octets) in
+    let words = plain_words (behind_word octets) in
     one_append (indent octets) (codes "tc" ++ (words ++ ending line)) (one_take (prefix_len is_blank octets) octets here)
     (one_append (codes "tc") (words ++ ending line) (record { none = refl })
-    (one_append words (ending line) (one_words [] (behind_word octets) (record { none = refl }) (one_behind octets here)) (one_ending line is)))
+    (one_append words (ending line) (one_words (behind_word octets) (one_behind octets here)) (one_ending line is)))
 
 one_joined : (line : List ℕ) → IsOne line → IsOne (plain_more line)
 one_joined line is =
     let octets = past_more_prompt (body line) in
-    one_append (unquoted_words [] octets) (ending line) (one_words [] octets (record { none = refl }) (one_more (body line) (one_body line is))) (one_ending line is)
+    one_append (plain_words octets) (ending line) (one_words octets (one_more (body line) (one_body line is))) (one_ending line is)
 
 one_line : (place : Place) (line : List ℕ) → IsOne line → IsOne (plain_line place line)
 one_line First line is =

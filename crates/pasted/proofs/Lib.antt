@@ -1,5 +1,5 @@
 mod DeviceLaws
 mod FeedCounts
 mod PlainLaws
-mod QuoteLaws
 mod RunLaws
+mod WordLaws

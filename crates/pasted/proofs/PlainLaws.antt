@@ -10,13 +10,15 @@ use Rattle.std.proofs.lemmas.List.{append-nil, get_or-append-add, get_or-take, l
 use Rattle.std.proofs.lemmas.Slice.Eq.{bytes_eq-Decides}
 use Rattle.text.specs.Script.{joins}
 use Rattle.text.specs.Words.{is_blank}
-use Rattle.pasted.specs.Plain.{begins_command, has_mark, plain_command, plain_line, plain_more, plain_rule, unmarked, behind_word, body, command, ending, first_word, has_more_prompt, has_prompt, has_long_prompt, has_quoted, has_sudo, indent, is_joined, is_prompt, is_quoted, past_blanks, past_more_prompt, past_option, past_prompt, past_sudo, next_word, unblank_length, unended_length, unquoted, unquoted_words}
-use Rattle.pasted.specs.Notes.{has_blanks, has_semicolon, marks, marks_of_command, marks_of_more, marks_of_other}
+use Rattle.pasted.specs.Plain.{begins_command, has_mark, plain_command, plain_line, plain_more, plain_rule, unmarked, behind_word, body, command, ending, first_word, has_more_prompt, has_prompt, has_long_prompt, has_sudo, indent, is_joined, is_prompt, past_blanks, past_more_prompt, past_option, past_prompt, past_sudo, next_word, unblank_length, plain_words, roles, unended_length, words_apart}
+use Rattle.pasted.specs.Notes.{has_blanks, has_quoted, has_semicolon, is_delay, is_fp, is_txtime, marks, marks_of_command, marks_of_more, marks_of_other}
 use Rattle.pasted.specs.Laws.{are_plain, is_none, is_plain}
 use Rattle.pasted.specs.Lines.{each_line, is_long, next_place, turned_line}
 use Rattle.pasted.specs.declared.place.Place.{Place}
 use Rattle.pasted.specs.declared.place.Place.TheVariants.{First, Begin, Command, Other}
 use Rattle.pasted.specs.declared.note.Marks.{Marks}
+use Rattle.pasted.specs.declared.roles.Role.TheVariants.{Stays}
+use Rattle.pasted.proofs.WordLaws.{apart_same, words_stay}
 
 rules_out : true ≡ false → ⊥
 rules_out e = cc
@@ -28,20 +30,6 @@ none_left true u e = absurd (rules_out e)
 none_right : (t u : Bool) → (t || u) ≡ false → u ≡ false
 none_right false u e = e
 none_right true u e = absurd (rules_out e)
-
--- ---- words without marks
-
-pub words_same : (word xs : List ℕ) → has_quoted word xs ≡ false → unquoted_words word xs ≡ word ++ xs
-words_same word [] e = ap (λ t. if t then take (length word - 2) (drop 1 word) else word) e ∙ sym (append-nil word)
-words_same word (b ∷ bs) e = by (is_blank b) e (λ no. words_same [] bs no) (λ no. words_same (word ++ b ∷ []) bs no)
-  where
-    by : (t : Bool) → (if t then is_quoted word || has_quoted [] bs else has_quoted (word ++ b ∷ []) bs) ≡ false
-        → (has_quoted [] bs ≡ false → unquoted_words [] bs ≡ bs) → (has_quoted (word ++ b ∷ []) bs ≡ false → unquoted_words (word ++ b ∷ []) bs ≡ (word ++ b ∷ []) ++ bs)
-        → (if t then unquoted word ++ (b ∷ unquoted_words [] bs) else unquoted_words (word ++ b ∷ []) bs) ≡ word ++ b ∷ bs
-    by true e one more =
-        ap (λ t. (if t then take (length word - 2) (drop 1 word) else word) ++ (b ∷ unquoted_words [] bs)) (none_left (is_quoted word) _ e)
-        ∙ ap (λ t. word ++ b ∷ t) (one (none_right (is_quoted word) _ e))
-    by false e one more = more e ∙ append_assoc word (b ∷ []) bs
 
 -- ---- the end of a line
 
@@ -192,6 +180,9 @@ record AreNone (m : Marks) : Type 0 where
   blanks : m.blanks ≡ false
   quotes : m.quotes ≡ false
   semicolon : m.semicolon ≡ false
+  fp : m.fp ≡ false
+  txtime_delay : m.txtime_delay ≡ false
+  txtime_assist : m.txtime_assist ≡ false
 
 are_none : (m : Marks) → is_none m ≡ true → AreNone m
 are_none m e =
@@ -201,21 +192,28 @@ are_none m e =
     let d = either m.path _ c.1 in
     let f = either m.blanks _ d.1 in
     let g = either m.quotes _ f.1 in
-    record { byte_order = a.0; prompt = b.0; sudo = c.0; path = d.0; blanks = f.0; quotes = g.0; semicolon = g.1 }
+    let h = either m.semicolon _ g.1 in
+    let i = either m.fp _ h.1 in
+    let j = either m.txtime_delay _ i.1 in
+    record { byte_order = a.0; prompt = b.0; sudo = c.0; path = d.0; blanks = f.0; quotes = g.0; semicolon = h.0; fp = i.0; txtime_delay = j.0; txtime_assist = j.1 }
+
+words_same : (xs : List ℕ) → has_quoted (words_apart [] [] xs) ≡ false → list_any is_fp (roles Stays (words_apart [] [] xs)) ≡ false
+    → list_any is_delay (roles Stays (words_apart [] [] xs)) ≡ false → list_any is_txtime (roles Stays (words_apart [] [] xs)) ≡ false → plain_words xs ≡ xs
+words_same xs q e f g = words_stay (words_apart [] [] xs) q e f g ∙ apart_same [] [] xs
 
 command_line : (marked : Bool) (line : List ℕ) → AreNone (marks_of_command marked line) → plain_command line ≡ line
 command_line marked line none =
     let octets = command (body line) in
     let same = command_same (body line) none.prompt none.sudo in
     let rest = behind_word octets in
-    ap (λ t. indent octets ++ (codes "tc" ++ (t ++ ending line))) (words_same [] rest none.quotes)
+    ap (λ t. indent octets ++ (codes "tc" ++ (t ++ ending line))) (words_same rest none.quotes none.fp none.txtime_delay none.txtime_assist)
     ∙ sym (append_assoc (indent octets) (codes "tc" ++ rest) (ending line))
     ∙ ap (λ t. t ++ ending line) (head_same octets (was_set _ none.path) ∙ same)
     ∙ ended line none.blanks none.semicolon
 
 more_line : (line : List ℕ) → AreNone (marks_of_more line) → plain_more line ≡ line
 more_line line none =
-    ap (λ t. t ++ ending line) (words_same [] (past_more_prompt (body line)) none.quotes ∙ more_same (body line) none.prompt)
+    ap (λ t. t ++ ending line) (words_same (past_more_prompt (body line)) none.quotes none.fp none.txtime_delay none.txtime_assist ∙ more_same (body line) none.prompt)
     ∙ ended line none.blanks none.semicolon
 
 first_line : (u marked : Bool) (text : List ℕ) → is_none (if u then marks_of_command marked text else marks_of_other marked) ≡ true

@@ -11,7 +11,8 @@ use Rattle.pasted.specs.declared.note.Marks.{Marks}
 
 -- nothing is passed over
 abbrev pub is_none : Marks → Bool
-is_none m = not (m.byte_order || (m.prompt || (m.sudo || (m.path || (m.blanks || (m.quotes || m.semicolon))))))
+is_none m =
+    not (m.byte_order || (m.prompt || (m.sudo || (m.path || (m.blanks || (m.quotes || (m.semicolon || (m.fp || (m.txtime_delay || m.txtime_assist)))))))))
 
 -- nothing is passed over in a line at a place
 abbrev pub is_plain : Place → List ℕ → Bool

@@ -1,14 +1,16 @@
 -- Lines of tc as they are pasted, and the plain ones that they mean. A line here is a physical one, without its line feed. Its words are
 -- the runs of octets that are no spaces, tabs and CRs.
-use Rattle.std.specs.Prelude.{◌-◌, ◌==◌, ◌&&◌, ◌||◌, not, nat_eq, nat_lt, Bool, true, false, List, ℕ, [], ◌∷◌, ◌++◌, codes, drop, length, slice_index, take, if◌then◌else◌}
-use Rattle.std.specs.List.{ends_with, filter, list_all, list_any, position_or_len, prefix_len, starts_with, suffix_len}
+use Rattle.std.specs.Prelude.{◌+◌, ◌-◌, ◌==◌, ◌&&◌, ◌||◌, not, nat_eq, nat_lt, Bool, true, false, List, ℕ, Option, Some, None, [], ◌∷◌, ◌++◌, codes, drop, length, slice_index, take, if◌then◌else◌}
+use Rattle.std.specs.List.{ends_with, filter, list_any, position_or_len, prefix_len, starts_with, suffix_len}
 use Rattle.std.specs.Str.{bytes_eq}
-use Rattle.text.specs.Numbers.{is_digits}
+use Rattle.text.specs.Numbers.{is_digits, number_in}
 use Rattle.text.specs.Script.{joins}
 use Rattle.text.specs.Words.{is_blank}
 use Rattle.pasted.specs.Lines.{Rule, each_line, place_behind}
 use Rattle.pasted.specs.declared.place.Place.{Place}
 use Rattle.pasted.specs.declared.place.Place.TheVariants.{First, Begin, Command, Other}
+use Rattle.pasted.specs.declared.roles.Role.{Role}
+use Rattle.pasted.specs.declared.roles.Role.TheVariants.{Stays, Fp, Delay, Assist, Value}
 
 -- ---- words
 
@@ -116,9 +118,6 @@ ending line =
 
 -- ---- quotation marks
 
-abbrev pub is_unblank : List ℕ → Bool
-is_unblank octets = list_all (λ b. not (is_blank b)) octets
-
 -- a word with the same mark on both sides
 abbrev pub is_quoted : List ℕ → Bool
 is_quoted word =
@@ -128,15 +127,70 @@ is_quoted word =
 abbrev pub unquoted : List ℕ → List ℕ
 unquoted word = if is_quoted word then take (length word - 2) (drop 1 word) else word
 
--- each word without its marks, from what stands of the first one
-abbrev pub unquoted_words : List ℕ → List ℕ → List ℕ
-unquoted_words word [] = unquoted word
-unquoted_words word (b ∷ bs) = if is_blank b then unquoted word ++ (b ∷ unquoted_words [] bs) else unquoted_words (word ++ b ∷ []) bs
+-- ---- options that change no gate
 
--- whether some word has them
-abbrev pub has_quoted : List ℕ → List ℕ → Bool
-has_quoted word [] = is_quoted word
-has_quoted word (b ∷ bs) = if is_blank b then is_quoted word || has_quoted [] bs else has_quoted (word ++ b ∷ []) bs
+-- the words of octets, each with the blanks in front of it, from what stands of the first one; blanks at the end are in front of none
+abbrev pub words_apart : List ℕ → List ℕ → List ℕ → List (List ℕ × List ℕ)
+words_apart blanks word [] = if length blanks + length word == 0 then [] else (blanks, word) ∷ []
+words_apart blanks word (b ∷ bs) =
+    if is_blank b then (if length word == 0 then words_apart (blanks ++ b ∷ []) [] bs else (blanks, word) ∷ words_apart (b ∷ []) [] bs) else
+    words_apart blanks (word ++ b ∷ []) bs
+
+-- a class is express or preemptible, behind fp
+abbrev pub is_kind : List ℕ → Bool
+is_kind word = bytes_eq word (codes "E") || bytes_eq word (codes "P")
+
+abbrev pub after_0x : List ℕ → List ℕ
+after_0x word = if bytes_eq (take 2 word) (codes "0x") then drop 2 word else word
+
+abbrev pub is_one : Option ℕ → Bool
+is_one None = false
+is_one (Some n) = n == 1
+
+-- whether flags are those of txtime assist alone: 1, in hexadecimal
+abbrev pub is_assist : List ℕ → Bool
+is_assist word = is_one (number_in 16 1 (after_0x word))
+
+-- an option that is left out, by its word and the next one
+unfoldable pub option_role : List ℕ → List ℕ → Role
+option_role word next =
+    if bytes_eq word (codes "fp") && is_kind next then Fp else
+    (if bytes_eq word (codes "txtime-delay") && is_digits next then Delay else
+    (if bytes_eq word (codes "flags") && is_assist next then Assist else Stays))
+
+-- what a word is, behind one that is this
+unfoldable pub next_role : Role → List ℕ → List ℕ → Role
+next_role Stays word next = option_role word next
+next_role Fp word next = if is_kind word then Fp else option_role word next
+next_role Delay word next = Value
+next_role Assist word next = Value
+next_role Value word next = option_role word next
+
+-- the first word without quotation marks, or nothing
+abbrev pub first_unquoted : List (List ℕ × List ℕ) → List ℕ
+first_unquoted [] = []
+first_unquoted (x ∷ xs) = unquoted x.1
+
+-- what each word is, behind one that is this
+abbrev pub roles : Role → List (List ℕ × List ℕ) → List Role
+roles role [] = []
+roles role (x ∷ xs) = let next = next_role role (unquoted x.1) (first_unquoted xs) in next ∷ roles next xs
+
+abbrev pub stays : Role → Bool
+stays Stays = true
+stays Fp = false
+stays Delay = false
+stays Assist = false
+stays Value = false
+
+-- the words that stay, without their marks, behind one that is this
+abbrev pub kept_words : Role → List (List ℕ × List ℕ) → List ℕ
+kept_words role [] = []
+kept_words role (x ∷ xs) = let next = next_role role (unquoted x.1) (first_unquoted xs) in (if stays next then x.0 ++ unquoted x.1 else []) ++ kept_words next xs
+
+-- what the words of a line of a command come out as
+abbrev pub plain_words : List ℕ → List ℕ
+plain_words octets = kept_words Stays (words_apart [] [] octets)
 
 -- ---- lines
 
@@ -154,7 +208,7 @@ unmarked place line = if has_mark place line then drop 3 line else line
 abbrev pub plain_command : List ℕ → List ℕ
 plain_command line =
     let octets = command (body line) in
-    indent octets ++ (codes "tc" ++ (unquoted_words [] (behind_word octets) ++ ending line))
+    indent octets ++ (codes "tc" ++ (plain_words (behind_word octets) ++ ending line))
 
 -- the prompt of a shell on a line that is joined to another one
 abbrev pub has_more_prompt : List ℕ → Bool
@@ -165,7 +219,7 @@ past_more_prompt octets = if has_more_prompt octets then next_word octets else o
 
 -- one that is joined to a command
 abbrev pub plain_more : List ℕ → List ℕ
-plain_more line = unquoted_words [] (past_more_prompt (body line)) ++ ending line
+plain_more line = plain_words (past_more_prompt (body line)) ++ ending line
 
 abbrev pub begins_command : List ℕ → Bool
 begins_command line = is_command (command (body line))

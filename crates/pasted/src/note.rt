@@ -1,7 +1,9 @@
 //! What was passed over in pasted lines.
 
 ghost use Rattle.std.specs.Prelude.{◌≡◌};
-ghost use Rattle.pasted.specs.Notes.{counted, noted};
+ghost use Rattle.pasted.specs.Notes.{counted, is_delay, is_fp, is_txtime, noted, with_word};
+
+use crate::roles::Role;
 
 /// In how many physical lines something was passed over, at most `u64::MAX`, and where first.
 #[derive(Clone, Copy, Debug, PartialEq, Eq)]
@@ -30,6 +32,27 @@ impl Passed {
     }
 }
 
+/// Whether a word is left out with fp.
+fn is_fp(role: Role) -> bool
+    ensures { result ≡ is_fp role }
+{
+    matches!(role, Role::Fp)
+}
+
+/// Whether a word is txtime-delay, which is left out.
+fn is_delay(role: Role) -> bool
+    ensures { result ≡ is_delay role }
+{
+    matches!(role, Role::Delay)
+}
+
+/// Whether a word is flags, which are left out.
+fn is_txtime(role: Role) -> bool
+    ensures { result ≡ is_txtime role }
+{
+    matches!(role, Role::Assist)
+}
+
 /// What is passed over in one physical line.
 #[derive(Clone, Copy, Debug, PartialEq, Eq)]
 pub struct Marks {
@@ -47,6 +70,12 @@ pub struct Marks {
     pub quotes: bool,
     /// Semicolons behind the last word.
     pub semicolon: bool,
+    /// fp and the words behind it: frame preemption.
+    pub fp: bool,
+    /// txtime-delay and its value.
+    pub txtime_delay: bool,
+    /// flags and its value, which asks for txtime assist.
+    pub txtime_assist: bool,
 }
 
 impl Marks {
@@ -59,7 +88,23 @@ impl Marks {
         blanks: false,
         quotes: false,
         semicolon: false,
+        fp: false,
+        txtime_delay: false,
+        txtime_assist: false,
     };
+
+    /// With what is passed over at one more word.
+    pub(crate) fn with_word(self, is_quoted: bool, role: Role) -> Marks
+        ensures { result ≡ with_word self is_quoted role }
+    {
+        Marks {
+            quotes: self.quotes | is_quoted,
+            fp: self.fp | is_fp(role),
+            txtime_delay: self.txtime_delay | is_delay(role),
+            txtime_assist: self.txtime_assist | is_txtime(role),
+            ..self
+        }
+    }
 }
 
 /// What was passed over in the lines of an input, each kind by itself.
@@ -79,6 +124,12 @@ pub struct Note {
     pub quotes: Passed,
     /// Semicolons behind the last word.
     pub semicolon: Passed,
+    /// fp and the words behind it.
+    pub fp: Passed,
+    /// txtime-delay and its value.
+    pub txtime_delay: Passed,
+    /// flags and its value, which asks for txtime assist.
+    pub txtime_assist: Passed,
 }
 
 impl Note {
@@ -91,6 +142,9 @@ impl Note {
         blanks: Passed::NONE,
         quotes: Passed::NONE,
         semicolon: Passed::NONE,
+        fp: Passed::NONE,
+        txtime_delay: Passed::NONE,
+        txtime_assist: Passed::NONE,
     };
 
     /// With what was passed over in one more line, of this number.
@@ -105,6 +159,9 @@ impl Note {
             blanks: self.blanks.count(number, marks.blanks),
             quotes: self.quotes.count(number, marks.quotes),
             semicolon: self.semicolon.count(number, marks.semicolon),
+            fp: self.fp.count(number, marks.fp),
+            txtime_delay: self.txtime_delay.count(number, marks.txtime_delay),
+            txtime_assist: self.txtime_assist.count(number, marks.txtime_assist),
         }
     }
 }

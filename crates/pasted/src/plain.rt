@@ -8,9 +8,9 @@ use crate::ends::{body, is_joined, put_ending};
 use crate::fronts::{
     command, has_more_prompt, has_prompt, has_sudo, is_command, past_more_prompt, past_prompt,
 };
+use crate::line_words::{marks_of_words, put_words};
 use crate::note::Marks;
 use crate::place::{Place, place_behind};
-use crate::quotes::put_unquoted;
 use crate::runs::joins;
 use crate::words::{behind_word, first_word, indent, unended_length};
 use std::alloc::{AllocError, Allocator};
@@ -95,7 +95,8 @@ pub(crate) fn put_command<A: Allocator>(
     let octets = command(text);
     out.extend_from_slice(indent(octets))?;
     out.extend_from_slice(b"tc")?;
-    let quotes = put_unquoted(behind_word(octets), out)?;
+    let words = behind_word(octets);
+    put_words(words, out)?;
     put_ending(line, out)?;
     Ok(Marks {
         byte_order: is_marked,
@@ -103,8 +104,8 @@ pub(crate) fn put_command<A: Allocator>(
         sudo: has_sudo(past_prompt(text)),
         path: first_word(octets) != b"tc".as_slice(),
         blanks: has_blanks(line),
-        quotes,
         semicolon: has_semicolon(line),
+        ..marks_of_words(words)
     })
 }
 
@@ -114,14 +115,14 @@ pub(crate) fn put_more<A: Allocator>(line: &[u8], out: &mut Vec<u8, A>) -> Resul
     ensures marks { IfOk result (λ marks. marks ≡ marks_of_more line.now) }
 {
     let text = body(line);
-    let quotes = put_unquoted(past_more_prompt(text), out)?;
+    let words = past_more_prompt(text);
+    put_words(words, out)?;
     put_ending(line, out)?;
     Ok(Marks {
         prompt: has_more_prompt(text),
         blanks: has_blanks(line),
-        quotes,
         semicolon: has_semicolon(line),
-        ..Marks::NONE
+        ..marks_of_words(words)
     })
 }
 

@@ -15,6 +15,11 @@ __all__ = ["line", "read_tc", "write_tc"]
 VERBS = ("add", "replace", "change")
 TIMES = ("base-time", "cycle-time", "cycle-time-extension")
 OPTIONS = ("num_tc", "map", "queues", *TIMES, "sched-entry", "clockid", "flags", "max-sdu")
+# what options do that set no gate
+UNSERVED = {
+    "txtime-delay": "txtime-delay is for launch times (txtime assist)",
+    "fp": "fp says which classes are preemptible (frame preemption)",
+}
 _ALL_DIGITS = re.compile(r"[0-9]+")
 _RANGE = re.compile(r"([0-9]+)@([0-9]+)")
 _HEX = re.compile(r"(?:0x)?([0-9a-fA-F]+)")
@@ -118,8 +123,8 @@ def _options(words: _Words, missing: str | None) -> Schedule:
     seen: set[str] = set()
     while words.at < len(given):
         at, option = words.at, given[words.at]
-        if option in ("txtime-delay", "fp"):
-            words.fault(f"Unsupported {option}", "an option that is modelled", at)
+        if option in UNSERVED:
+            words.fault(f"Unsupported {option}", f"an option that sets gates: {UNSERVED[option]}, and can be left out", at)
         if option not in OPTIONS:
             words.fault(f"UnknownOption {at}", "an option of taprio", at)
         if option in seen and option != "sched-entry":
@@ -154,7 +159,7 @@ def _options(words: _Words, missing: str | None) -> Schedule:
         else:
             flags = words.hexadecimal(words.next(option), U32, at)
             if flags not in (0, 2):
-                words.fault("Unsupported flags", "0 or 2 (txtime assist is not modelled)", at)
+                words.fault("Unsupported flags", "0 or 2: 1 asks for launch times (txtime assist), sets no gate, and can be left out", at)
     if missing:
         words.fault(f"MissingWord {missing}", "dev before taprio" if missing == "dev" else "root or parent before taprio")
     classes, priorities = times.get("num_tc"), lists.get("map")
