@@ -41,7 +41,8 @@ fn split_word(octets: &[u8]) -> Option<(&[u8], &[u8], &[u8])>
 
 /// What a word is, behind one that is this, where these octets come behind it.
 fn role_before(role: Role, word: &[u8], behind: &[u8]) -> Role
-    ensures { result ≡ next_role role (unquoted word.now) (first_unquoted (words_apart [] [] behind.now)) }
+    ensures { result
+        ≡ next_role role (unquoted word.now) (first_unquoted (words_apart [] [] behind.now)) }
 {
     next_role(role, unquoted(word), unquoted(first_word(behind)))
 }
