@@ -1,8 +1,12 @@
 """Cases of captures in pcapng, and of check sequences: what they answer is what the classic captures answer that they come to."""
+import concurrent.futures
+import functools
+import itertools
 import pathlib
 import random
 import shutil
 import struct
+import tempfile
 import tomllib
 
 import pcapng_tools
@@ -44,11 +48,74 @@ def case_a_pcapng_answers_as_the_classic_capture_that_it_comes_to(program):
             assert auto[0] == 3 and auto[3].startswith(b"taprio_port: capture block "), (case["name"], auto)
 
 
-def case_captures_of_wiresharks_tools_are_read_as_these_read_them(program):
-    """Where the tools are: made by tshark, editcap and mergecap, and by hand."""
-    if any(not shutil.which(name) for name in pcapng_tools.TOOLS):
+@functools.cache
+def without_tools():
+    """Whether a tool isn't there. Then that is said once, and the cases below do nothing."""
+    missing = [name for name in pcapng_tools.TOOLS if not shutil.which(name)]
+    if missing:
+        print(f"captures of Wireshark's tools and tcpdump: skipped, since {missing[0]} isn't there")
+    return bool(missing)
+
+
+def case_captures_of_wiresharks_tools_answer_as_editcaps_classic_ones(program):
+    """Where the tools are: made by tshark, tcpdump, editcap and mergecap, and by hand."""
+    if not without_tools():
+        assert pcapng_tools.compare(lambda octets: replayed(program, octets, "--format", "auto")[:3]) >= 60
+
+
+def answered(program, octets):
+    """What the program says of each frame of a capture: its moment in nanoseconds, its octets on the wire, and those that are captured. A
+    port of 10 Gb/s lets out all of them in their order, so that the records that leave tell what is captured."""
+    words = ["--format", "auto", "--rate", "10000", "--room", "4096"]
+    table = run(program, ["frames", *words, "--capture", "capture"], b"", {"capture": octets})
+    left = run(program, ["replay", *words, "script", "capture", "out"], b"", {"script": b"", "capture": octets})
+    assert table.status == 0 and left.status == 0, (table.errors, left.errors)
+    rows = sorted((row.split(b",") for row in table.output.splitlines()[1:]), key=lambda row: int(row[0]))
+    captured, at, out = [], 24, left.files["out"]
+    while at < len(out):
+        captured.append(struct.unpack_from("<I", out, at + 8)[0])
+        at += 16 + captured[-1]
+    assert [int(row[0]) for row in rows] == list(range(len(captured))), (len(rows), len(captured))
+    return [(int(row[3]) // 1000, int(row[2]), count) for row, count in zip(rows, captured)]
+
+
+def in_order(moments):
+    """Moments as a replay takes them: none is before the one in front of it, and without a time stamp it is that one."""
+    return list(itertools.accumulate((at or 0 for at in moments), max))
+
+
+def agree(what, frames, shark, dump):
+    """The same frames in the same order, as tshark and tcpdump tell them. Whether tcpdump reads the capture."""
+    assert [frame[1:] for frame in frames] == [frame[1:] for frame in shark], what
+    assert [frame[0] for frame in frames] == in_order(frame[0] for frame in shark), what
+    if dump is not None:
+        assert all(wire in (None, frame[1]) for frame, (_, wire) in zip(frames, dump, strict=True)), what
+        assert [frame[0] for frame in frames] == in_order(frame[0] for frame in dump), what
+    return dump is not None
+
+
+def case_frames_are_those_that_tshark_and_tcpdump_tell(program):
+    """Of each capture the same frames in the same order: moment, length and captured octets as tshark tells them, moment and length as
+    tcpdump does."""
+    if without_tools():
         return
-    assert pcapng_tools.compare(lambda octets: replayed(program, octets, "--format", "auto")[:3]) >= 20
+    with tempfile.TemporaryDirectory(prefix="taprio-tools-") as name:
+        captures = pcapng_tools.all_of_them(pathlib.Path(name))
+    with concurrent.futures.ThreadPoolExecutor(4) as pool:
+        octets = [it for _, it in captures]
+        told = zip(captures, pool.map(pcapng_tools.by_tshark, octets), pool.map(pcapng_tools.by_tcpdump, octets), strict=True)
+        by_tcpdump = sum(agree(what, answered(program, it), shark, dump) for (what, it), shark, dump in told)
+    assert len(captures) >= 60 and by_tcpdump >= 60, (len(captures), by_tcpdump)
+
+
+def case_a_link_type_that_isn_t_ethernet_is_a_fault_that_has_its_number(program):
+    """Of both formats."""
+    if without_tools():
+        return
+    with tempfile.TemporaryDirectory(prefix="taprio-tools-") as name:
+        for what, number, octets in pcapng_tools.other_links(pathlib.Path(name)):
+            status, _, _, errors = replayed(program, octets, "--format", "auto", "--explain")
+            assert status == 3 and b"BadLink" in errors and str(number).encode() in errors, (what, errors)
 
 
 def mixed(order, resolution):

@@ -27,9 +27,10 @@ export class Editor {
   /**
    * @param {HTMLElement} box
    * @param {(text: string) => string | null} taken what goes in where a text is pasted; null where nothing does
+   * @param {(text: string) => {text: string, back: (place: number) => number}} plain the plain lines of a text, of which faults tell
    */
-  constructor(box, taken) {
-    this.taken = taken;
+  constructor(box, taken, plain) {
+    Object.assign(this, { taken, plain });
     this.area = box.querySelector("textarea");
     this.numbers = box.querySelector(".numbers");
     this.mark = box.querySelector(".mark");
@@ -114,7 +115,7 @@ export class Editor {
 
   /** Underlines what faults are about, each of a line of the text: see `marksIn`. */
   underline(faults) {
-    const marks = marksIn(this.text, faults);
+    const marks = marksIn(this.plain(this.text), faults);
     const before = this.#held ? this.#held.slice(0, this.#base).reduce((sum, it) => sum + it.length + 1, 0) : 0;
     this.#odd = marks.map(({ begin, end }) => ({ begin: begin - before, end: end - before }));
     this.#inked = "";

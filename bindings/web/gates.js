@@ -67,9 +67,13 @@ function faultOf(entries) {
   return entries.length > MOST_ENTRIES ? `It has ${entries.length} entries, and ${MOST_ENTRIES} is the most.` : "";
 }
 
+// A logical line of plain lines, and its words, where they stand in the text that these are of.
+const placedIn = (back, { number, begin, end }) => ({ number, begin: begin && back(begin - 1) + 1, end: back(end) });
+const placedWord = (back, { word, at, end }) => ({ word, at: back(at), end: back(end - 1) + 1 });
+
 // The gate list of a command, or null where it is none: its entries begin and end at nanoseconds from the cycle's beginning.
-function listOf(text, line) {
-  const words = wordsAt(text, line);
+function listOf({ text, back }, line) {
+  const words = wordsAt(text, line).map((it) => placedWord(back, it));
   const head = headOf(words);
   if (!head) return null;
   const behind = words.slice(head.behind - 1);
@@ -80,18 +84,18 @@ function listOf(text, line) {
   for (const it of entries) if (it) [it.begin, it.end] = [end, (end += it.interval)];
   const cycle = optionOf(behind, "cycle-time");
   const kinds = numberOf(optionOf(behind, "num_tc"), /^[0-9]+$/, 10, 1, 8);
-  return { ...line, device: head.device, entries, sum: end, cycle: /^[0-9]+$/.test(cycle ?? "") && Number(cycle) > 0 ? Number(cycle) : null, kinds, fault: faultOf(entries) };
+  return { ...placedIn(back, line), device: head.device, entries, sum: end, cycle: /^[0-9]+$/.test(cycle ?? "") && Number(cycle) > 0 ? Number(cycle) : null, kinds, fault: faultOf(entries) };
 }
 
 /**
  * The gate lists of a text, in their order.
  *
- * @param {string} text a script, or schedules
+ * @param {{text: string, back: (place: number) => number}} plain the plain lines of a script or of schedules, and where their signs stand in it
  * @returns {{number: number, begin: number, end: number, device: string, entries: object[], sum: number, cycle: number | null, kinds: number | null, fault: string}[]}
  *   `number` is that of the command's first line, `begin` and `end` are where it stands in the text; times are nanoseconds, `cycle` is null where
  *   no cycle-time is given, `kinds` is the number of classes, and `fault` says what can't be read
  */
-export const gateListsIn = (text) => [...placesOfLines(text)].map((it) => listOf(text, it)).filter(Boolean);
+export const gateListsIn = (plain) => [...placesOfLines(plain.text)].map((it) => listOf(plain, it)).filter(Boolean);
 
 const put = ({ at, end }, words) => ({ at, end, words: String(words) });
 

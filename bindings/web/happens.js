@@ -64,9 +64,9 @@ export function dateOf(moment) {
  * @param {bigint} moment
  * @returns {{text: string, shift: bigint}}
  */
-export function setClock(text, moment) {
+export function setClock(text, moment, plain = text) {
   const lines = text.split("\n");
-  const parts = [...linesOf(text)].map((it, place, all) => ({ ...it, end: (all[place + 1]?.number ?? lines.length + 1) - 1 }));
+  const parts = [...linesOf(plain)].map((it, place, all) => ({ ...it, end: (all[place + 1]?.number ?? lines.length + 1) - 1 }));
   const wordsIn = (line) => line.split(/[ \t\r]+/).filter(Boolean);
   const command = parts.findLastIndex(({ line }) => wordsIn(line)[0] === "tc");
   const clockOf = ({ line }) => (/^[ \t]*clock[ \t]+\d+[ \t\r]*$/.test(line) ? BigInt(wordsIn(line)[1]) : null);

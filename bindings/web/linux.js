@@ -1,6 +1,7 @@
 // What the software mode of Linux does otherwise with schedule commands, as far as their lines say so: see "The software mode of Linux" in
 // docs/compare.md. The program says it with check --explain.
 import { gateListsIn } from "./gates.js";
+import { asItStands } from "./pasted.js";
 import { linesOf } from "./script.js";
 
 const GREATEST_CYCLE = 2 ** 31 - 1; // nanoseconds: a number of 32 bits with a sign
@@ -27,7 +28,7 @@ function notesOf({ number, cycle, sum }, line, earlier) {
  * @returns {string} sentences; empty where it does the same
  */
 export function linuxSaid(text) {
-  const lists = new Map(gateListsIn(text).map((it) => [it.number, it]));
+  const lists = new Map(gateListsIn(asItStands(text)).map((it) => [it.number, it]));
   const found = [];
   let earlier = false;
   for (const { number, line } of linesOf(text)) {

@@ -94,11 +94,11 @@ function wordOfLine(words, name) {
 /**
  * Where a text has what faults are about: a word, the end of a line where one lacks, or all of a line.
  *
- * @param {string} text
+ * @param {{text: string, back: (place: number) => number}} plain the plain lines of the text, and where their signs stand in it
  * @param {{line: number, said: string}[]} faults `said` is what is said of a line, such as `tc-fault UnknownOption 7` or `BadNumber`
  * @returns {{begin: number, end: number}[]} places in the text
  */
-export function marksIn(text, faults) {
+export function marksIn({ text, back }, faults) {
   const wanted = new Map(faults.map(({ line, said }) => [line, said]));
   const found = [];
   for (const line of wanted.size ? placesOfLines(text) : []) {
@@ -108,8 +108,8 @@ export function marksIn(text, faults) {
     const [head, ...rest] = wanted.get(line.number).replace(/[,.].*$/, "").split(" ");
     const end = words.at(-1).end;
     const word = ["tc-fault", "refused"].includes(head) ? wordOfCommand(words, ...rest) : wordOfLine(words, head);
-    if (word === "behind") found.push({ begin: line.end, end: line.end + 1 });
-    else found.push(word ? { begin: word.at, end: word.end } : { begin: words[0].at, end });
+    const [from, to] = word === "behind" ? [line.end, line.end + 1] : word ? [word.at, word.end] : [words[0].at, end];
+    found.push({ begin: back(from), end: back(to - 1) + 1 });
   }
   return found;
 }

@@ -4,10 +4,11 @@ import { wordOfMoment } from "./moments.js";
 const NUMBERS = ["rate", "mtu", "room", "frames", "entries"];
 const NANOSECONDS = { cycle: "cycle", least: "least-interval", base: "base-time" }; // the program's words for times that are whole nanoseconds
 const MOMENTS = ["until", "from", "to", ...Object.keys(NANOSECONDS)];
-const FLAGS = ["summary", "shares", "windows", "late", "slack", "why", "leftovers", "share"];
+const FLAGS = ["summary", "shares", "windows", "late", "slack", "why", "leftovers", "share", "exact"];
 const SEED = "seed";
 const SILENT = "silent";
-const TEXTS = [...NUMBERS, ...MOMENTS, SEED, SILENT]; // the options that are typed, or chosen of a list
+const DEVICE = "device";
+const TEXTS = [...NUMBERS, ...MOMENTS, SEED, SILENT, DEVICE]; // the options that are typed, or chosen of a list
 const GREATEST_NUMBER = 2 ** 32 - 1;
 const GREATEST_SEED = 2n ** 64n - 1n;
 const USED = {
@@ -112,6 +113,9 @@ export async function valuesFor(job, read) {
   for (const [place, name] of names.entries()) values[name] = name in NANOSECONDS ? nanosecondsOf(name, moments[place]) : moments[place];
   return values;
 }
+
+/** How the tc lines of a text are read: as they stand, or as they are pasted; and of which device alone, or null. */
+export const readingOfLines = () => ({ exact: inputOf("exact").checked, device: inputOf(DEVICE).value.trim() || null });
 
 /** The options that are not as they stand at first, as words. */
 export function wordsOfOptions() {

@@ -1,7 +1,7 @@
 // The page: what is typed goes to the port, and what it answers is shown.
 import { Runner, Stopped } from "./runner.js";
 import { Editor } from "./editor.js";
-import { BadOption, momentsIn, setOptions, valuesFor, wordsOfOptions } from "./options.js";
+import { BadOption, momentsIn, readingOfLines, setOptions, valuesFor, wordsOfOptions } from "./options.js";
 import { base64Of, readLink, writeLink } from "./link.js";
 import { explain } from "./faults.js";
 import { refusedCommands } from "./commands.js";
@@ -24,6 +24,7 @@ import { Inputs } from "./inputs.js";
 import { Strip } from "./strip.js";
 import { BadSchedule } from "./documents.js";
 import { formOf, importedFrom, nameOfForm } from "./imports.js";
+import { asItStands, linesOfDevice, passedSaid, plainOf, twoDevices } from "./pasted.js";
 import { hasStreams, isNetwork, jobOf, kindOf } from "./captures.js";
 import { STEPS } from "./gallery.js";
 import { INSTEAD, lacking } from "./support.js";
@@ -55,11 +56,13 @@ const examples = JSON.parse(at("page-examples").textContent);
 const octetsIn = (base64) => Uint8Array.from(atob(base64), (it) => it.charCodeAt(0));
 const encoded = (text) => new TextEncoder().encode(text);
 const runner = new Runner(at("page-worker").textContent, octetsIn(at("page-wasm").textContent));
-const editor = new Editor(at("editor"), (text) => takePasted(editor, text));
-const beside = new Editor(at("beside-editor"), (text) => takePasted(beside, text));
-const other = new Editor(at("other-editor"), (text) => takePasted(other, text)); // the schedule that is compared with that of the input
+// The plain lines that those of a text mean, as the options say that they are read.
+const plainly = (text) => (readingOfLines().exact ? asItStands(text) : plainOf(text));
+const editor = new Editor(at("editor"), (text) => takePasted(editor, text), plainly);
+const beside = new Editor(at("beside-editor"), (text) => takePasted(beside, text), plainly);
+const other = new Editor(at("other-editor"), (text) => takePasted(other, text), plainly); // the schedule that is compared with that of the input
 const editors = [editor, beside, other];
-const strip = new Strip(at("gates"), { begin: (source) => noteGates(source), change: (...words) => putGates(...words), end: () => endGates(), choose: (...words) => chooseSchedule(...words) });
+const strip = new Strip(at("gates"), { plain: plainly, begin: (source) => noteGates(source), change: (...words) => putGates(...words), end: () => endGates(), choose: (...words) => chooseSchedule(...words) });
 
 const inputs = new Inputs();
 const past = []; // what stood in the page before another text took its place, for Ctrl+Z
@@ -88,6 +91,7 @@ let beforeMove = null; // what the run before a move by hand came to
 let notTaken = []; // the commands of the last run that were not taken: their lines, and what was said of them
 
 const COMPARED = ["script", "bounds", "paths", "streams", "replay"]; // the jobs of which another schedule is run, too
+const ONE_PORT = ["script", "replay", "streams"]; // the jobs whose tc lines are those of one port
 const JUDGED = ["bounds", "paths"]; // the jobs that judge streams for ever, under schedules that stand alone in the text
 const ALONE = ["check", "paths", "plan"]; // the jobs of which a schedule is drawn alone
 const NAMES = { script: "Script", bounds: "Schedules", paths: "Schedules of the ports", plan: "Table of streams, or network", check: "Schedules", streams: "Table of streams", replay: "Script of the replay" };
@@ -592,7 +596,7 @@ async function saveFrames() {
 
 // Underlines what was not taken of the text, if that is what was run, and a fault of it.
 function underlineText(...faults) {
-  editor.underline([...(ran?.text === editor.text ? notTaken : []), ...faults]);
+  editor.underline([...(ran?.typed === editor.text ? notTaken : []), ...faults]);
 }
 
 function clearFault() {
@@ -703,7 +707,7 @@ function clearVerdict(words = "") {
 async function setClockThere() {
   const moment = notYet(ran);
   notePast();
-  const { text, shift } = setClock(editor.text, moment);
+  const { text, shift } = setClock(editor.text, moment, plainly(editor.text).text);
   const [until] = await momentsIn(["until"], readMoments).catch(() => [null]);
   editor.text = text;
   if (until !== null && until + shift <= GREATEST) at("until").value = writeMoment(until + shift);
@@ -722,14 +726,47 @@ function running(is) {
 // The port's reader of moments.
 const readMoments = async (words) => (await runner.run({ job: "moments", words })).moments;
 
+// The lines of a text with tc lines as the options say that they are read, and what is said of what was passed over. (Those of a network are of all
+// its devices.)
+function readLines(text, isOnePort) {
+  const device = job() === "paths" ? null : readingOfLines().device;
+  const plain = plainly(text);
+  const { text: lines, others } = device === null ? { text: plain.text, others: null } : linesOfDevice(plain.text, device);
+  const [one, its] = (isOnePort && twoDevices(lines)) || [];
+  const devices = its ? `Line ${its.number} is of device ${its.device}, line ${one.number} of ${one.device}: one port answers all lines. Device, in the options, takes those of one.` : "";
+  return { lines, said: [passedSaid(plain.passed, others), devices].filter(Boolean).join(" ") };
+}
+
+// What is run of the fields, of which one or two have tc lines; and what is said of these.
+function readFields(name) {
+  const typed = { text: editor.text, beside: hasBeside(name) ? beside.text : "", other: COMPARED.includes(name) ? other.text.trimEnd() : "" };
+  const read = { ...typed };
+  const said = [];
+  for (const part of name === "plan" ? [] : [name === "streams" ? "beside" : "text", "other"]) {
+    const found = readLines(typed[part], part !== "other" && ONE_PORT.includes(name));
+    read[part] = found.lines;
+    if (found.said) said.push(part === "other" ? `Of the other schedule: ${found.said}` : found.said);
+  }
+  return { read, said: said.join(" ") };
+}
+
+// Says what was passed over in tc lines, and of which devices they are.
+function sayPassed(words) {
+  at("passed").hidden = !words;
+  at("passed").textContent = words;
+}
+
 // What is run: the text and the values as they stand now.
 async function snapshot() {
-  const [name, text] = [job(), editor.text];
-  const second = name === "replay" ? capture : encoded(hasBeside(name) ? beside.text : "");
+  const name = job();
+  const typed = editor.text;
+  const { read, said } = readFields(name);
+  const { text } = read;
+  const second = name === "replay" ? capture : encoded(read.beside);
   const values = await valuesFor(name, readMoments);
   if (name === "replay" && !second.length) throw new BadOption("capture", "No capture is chosen: choose a pcap or pcapng file, or drop one on the page.");
   const { rate, mtu, room } = values;
-  return { job: name, text, beside: second, besideText: beside.text, otherText: COMPARED.includes(name) ? other.text.trimEnd() : "", other: null, values, port: { rate, mtu, room }, until: null, frames: [], wire: [], times: timesOf([]), classes: [], changes: [], history: null, kinds: null, first: 0n, last: 0n, windows: [], bounds: [], paths: null, schedules: [], source: null, why: "", drawn: null, window: null, waits: null, since: null, isWhole: false };
+  return { job: name, typed, text, passed: said, beside: second, besideText: hasBeside(name) ? read.beside : beside.text, otherText: read.other, other: null, values, port: { rate, mtu, room }, until: null, frames: [], wire: [], times: timesOf([]), classes: [], changes: [], history: null, kinds: null, first: 0n, last: 0n, windows: [], bounds: [], paths: null, schedules: [], source: null, why: "", drawn: null, window: null, waits: null, since: null, isWhole: false };
 }
 
 // What a run came to, as far as the next one is compared with it.
@@ -877,6 +914,7 @@ async function work(mine, typed) {
   const told = await ask(mine, { job: next.job, text: next.text, beside: next.beside, values: next.values });
   if (!told) return;
   clearFault();
+  sayPassed(next.passed);
   if (staysShown(typed) && !isAnswered(told)) {
     keepEarlier();
     showFault(told.fault);
@@ -1194,7 +1232,7 @@ function putOther(text) {
 }
 
 function copySchedule() {
-  putOther(commandsIn(job() === "streams" ? beside.text : editor.text).map((it) => `${it.trim().replace(/[ \t\r]+/g, " ")}\n`).join(""));
+  putOther(commandsIn(plainly(scheduleEditor().text).text).map((it) => `${it.trim().replace(/[ \t\r]+/g, " ")}\n`).join(""));
   other.area.focus();
 }
 
@@ -1314,7 +1352,7 @@ function takePasted(part, text) {
   const lines = importOf(text, form, isTable ? ", in the place of the tc lines of the other field" : "");
   if (lines === null || !isTable) return lines && part.apart(lines);
   notePast();
-  scheduleEditor().text = withSchedule(scheduleEditor().text, lines);
+  scheduleEditor().text = withSchedule(plainly(scheduleEditor().text).text, lines);
   becomeOwn();
   return null;
 }
@@ -1777,6 +1815,7 @@ function listenToInput() {
   }
   other.area.addEventListener("replace", notePast);
   other.area.addEventListener("input", becomeOwn);
+  at("exact").addEventListener("input", () => strip.forget());
   for (const input of document.querySelectorAll(".options input, .options select")) input.addEventListener("input", changeOption);
   at("example").addEventListener("change", chooseExample);
   at("back").addEventListener("click", () => stepExample(-1));

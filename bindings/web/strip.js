@@ -41,7 +41,8 @@ export class Strip {
   /**
    * @param {HTMLElement} box with `.strip`, `.said` and the controls
    * @param {{begin: (source: number) => void, change: (source: number, text: string, begin: number, end: number) => void, end: () => void,
-   *   choose: (source: number, line: number) => void}} calls `source` is the number of a text; `choose` is told the line of a gate list that is chosen
+   *   choose: (source: number, line: number) => void, plain: (text: string) => {text: string, back: (place: number) => number}}} calls `source` is the
+   *   number of a text; `choose` is told the line of a gate list that is chosen; `plain` says what the lines of a text mean
    */
   constructor(box, calls) {
     this.box = box;
@@ -61,6 +62,11 @@ export class Strip {
     this.add.addEventListener("click", () => this.#split());
     this.remove.addEventListener("click", () => this.#drop());
     new ResizeObserver(() => this.place.clientWidth !== this.#view?.width && this.draw()).observe(this.place);
+  }
+
+  /** Reads the texts anew when they are shown next, since what their lines mean has changed. */
+  forget() {
+    this.#texts = [];
   }
 
   /** Whether there is a gate list to show. */
@@ -91,7 +97,7 @@ export class Strip {
 
   #take(texts) {
     this.#texts = texts;
-    this.#lists = texts.flatMap((text, source) => gateListsIn(text).map((it) => ({ ...it, source })));
+    this.#lists = texts.flatMap((text, source) => gateListsIn(this.calls.plain(text)).map((it) => ({ ...it, source })));
   }
 
   #fillWhich() {

@@ -1576,6 +1576,154 @@ def try_imports(page):
     page.choose("first.script")
 
 
+PASTED = TOP / "tests" / "imports" / "pasted_lines.toml"
+# What each case of these rows comes to, by the page's own module.
+READ_PASTED = """return rows.map(({ input, tolerant, device }) => {
+    const { text, back, passed } = tolerant ? plainOf(input) : asItStands(input);
+    const found = device === null ? { text, others: null } : linesOfDevice(text, device);
+    const kept = [...text].every((sign, place) => input[back(place)] === sign);
+    return [found.text, Object.fromEntries(passed.map((it) => [it.kind, [it.lines, it.first]])), found.others && [found.others.lines, found.others.first, found.others.device], kept];
+});"""
+KINDS_PASSED = {
+    "byte_order": "a byte order mark", "prompt": "the prompt of a shell", "sudo": "sudo", "path": "the path of tc", "blanks": "blanks behind a backslash", "quotes": "quotation marks",
+    "semicolon": "semicolons", "fp": "fp (frame preemption)", "txtime_delay": "txtime-delay", "txtime_assist": "flags 0x1 (txtime assist)",
+}
+
+
+def pasted_cases():
+    """The rows of pasted lines whose octets are a text."""
+    octets = lambda value: bytes.fromhex(value["hex"]) if isinstance(value, dict) else value.encode("latin-1")
+    for case in tomllib.loads(PASTED.read_text(encoding="utf-8"))["case"]:
+        try:
+            yield {**case, "input": octets(case["input"]).decode(), "output": octets(case["output"]).decode(), "tolerant": case.get("tolerant", False),
+                   "passed": {kind.lower(): told for kind, told in case.get("passed", {}).items()}}
+        except UnicodeDecodeError:
+            pass
+
+
+def passed_said(passed, others=None):
+    """What the page says of what was passed over."""
+    lines = lambda number: f"{number} line{'s' * (number != 1)}"
+    parts = [f"{words} ({lines(passed[kind][0])}, the first: {passed[kind][1]})" for kind, words in KINDS_PASSED.items() if kind in passed]
+    parts += [f"tc lines of other devices, such as {others[2]} ({lines(others[0])}, the first: {others[1]})"] if others else []
+    return f"Passed over: {', '.join(parts)}." if parts else ""
+
+
+def try_pasted_rows(page):
+    """The module of the page reads each row as the program does; and the page answers to it, and says what was passed over."""
+    cases = list(pasted_cases())
+    page.same("rows of pasted lines", len(cases) >= 55, True)
+    rows = [{"input": it["input"], "tolerant": it["tolerant"], "device": it.get("device")} for it in cases]
+    told = page.do(f"{modules('pasted.js', [])} const rows = {json.dumps(rows)}; {READ_PASTED}")
+    for case, got in zip(cases, told):
+        page.same(f"pasted: {case['name']}", got, [case["output"], case["passed"], case.get("others"), True])
+    page.choose("first.script")
+    for case in (it for it in cases if it["tolerant"] and "\r" not in it["input"]):
+        page.set("device", case.get("device", ""))
+        page.set("text", case["input"])
+        page.run()
+        words = ["--tolerant", *(["--device", case["device"]] if "device" in case else [])]
+        status, wanted, fault = program("script", *words, text=case["input"].encode())
+        page.same(f"pasted: {case['name']}, said", page.text("passed").split(" Line ")[0], passed_said(case["passed"], case.get("others")))
+        if status == 0:
+            page.same(f"pasted: {case['name']}, answers", page.text("answers"), wanted.decode())
+        else:
+            line = re.search(r"script line (\d+)", fault.decode())[1]
+            page.same(f"pasted: {case['name']}, fault", page.text("fault-text").split(":")[0], f"Line {line}")
+    page.set("device", "")
+
+
+SHELL = """$ sudo tc qdisc replace dev eth0 parent root handle 100 taprio \\
+> num_tc 2 map 0 1 base-time 0 \\
+> sched-entry S 01 "300000" sched-entry S 02 200000 ;
+"""
+SHELL_PLAIN = SHELL.replace("$ sudo ", "").replace("> ", "").replace('"', "").replace(" ;", " ")
+SHELL_SAID = "Passed over: the prompt of a shell (3 lines, the first: 1), sudo (1 line, the first: 1), quotation marks (1 line, the first: 3), semicolons (1 line, the first: 3)."
+
+
+def try_pasted(page):
+    """Lines that are pasted from a shell are read in each job that reads tc lines; a fault is underlined, and gates are moved, where they stand."""
+    try_pasted_rows(page)
+    for job, words, beside in (("check", ["check"], None), ("script", ["script"], None), ("streams", ["streams"], "stream 1 1 64 250us 0ns 2\n")):
+        page.choose({"check": "windows.schedules", "script": "first.script", "streams": "planned.streams"}[job])
+        page.set("windows", False)
+        page.set("beside" if beside else "text", SHELL)
+        if beside:
+            page.set("text", beside)
+        page.run()
+        with tempfile.NamedTemporaryFile() as plain:
+            pathlib.Path(plain.name).write_text(SHELL_PLAIN)
+            wanted = program(*words, *(["--with", plain.name] if beside else []), text=(beside or SHELL_PLAIN).encode())[1]
+        page.same(f"pasted lines of {job}", [page.text("answers").strip(), page.text("passed")], [wanted.decode().strip(), SHELL_SAID])
+    page.choose("drive.bounds")
+    table = page.do("return at('beside').value")
+    page.set("text", SHELL)
+    page.run()
+    with tempfile.NamedTemporaryFile() as streams:
+        pathlib.Path(streams.name).write_text(table)
+        page.same("pasted lines of bounds", [page.text("answers").encode(), page.text("passed")], [program("bounds", streams.name, text=SHELL_PLAIN.encode())[1], SHELL_SAID])
+    page.choose("line.paths")
+    ports, network = page.do(TEXT), page.do("return at('beside').value")
+    page.set("text", re.sub("(?m)^tc ", "root@box:~# /sbin/tc ", ports))
+    page.run()
+    with tempfile.NamedTemporaryFile() as given:
+        pathlib.Path(given.name).write_text(network)
+        page.same("pasted lines of paths", page.text("answers").encode(), program("paths", given.name, text=ports.encode())[1])
+    page.same("what was passed over there", page.text("passed").startswith("Passed over: the prompt of a shell ("), True)
+    page.choose("machine.pcap")
+    page.set("until", "")
+    page.set("text", re.sub("(?m)^tc ", "$ sudo tc ", page.do(TEXT)))
+    page.run()
+    page.same("pasted lines of a replay", page.text("answers").encode(), replayed()[0])
+    page.choose("schedule.script")
+    page.click("#compare")
+    page.set("other", SHELL)
+    page.run()
+    page.same("pasted lines of the other schedule", [page.text("passed"), page.do("return at('other-fault').hidden && !at('differences-box').hidden")], [f"Of the other schedule: {SHELL_SAID}", True])
+    try_pasted_places(page)
+    try_pasted_choices(page)
+    page.choose("first.script")
+
+
+def try_pasted_places(page):
+    """What is told of a word is shown where it stands behind what was passed over."""
+    page.choose("first.script")
+    page.set("text", SHELL.replace("base-time", "base_time"))
+    page.run()
+    page.same("the word that is wrong", page.do(ODD), ["base_time"])
+    page.set("text", SHELL)
+    page.run()
+    page.do("document.querySelector('#gates .edge').focus()")
+    press_edge(page, "ArrowRight")
+    wait_for(page.browser, "return document.getElementById('text').value.includes('301000')", 5)
+    page.settle()
+    page.same("a gate that is moved", page.do(TEXT), SHELL.replace("300000", "301000").replace("200000", "199000"))
+
+
+def try_pasted_choices(page):
+    """Lines are read as they stand where that is chosen; of one device alone; and lines of two devices are told."""
+    page.choose("first.script")
+    comment = "# tc qdisc del dev eth0 root\nframe 1 0 60\nclock 1000000\n"
+    page.set("text", comment)
+    page.run()
+    page.same("a prompt of root", page.text("passed"), "Passed over: the prompt of a shell (1 line, the first: 1).")
+    page.do("at('exact').click()")
+    page.run()
+    page.same("as it stands", [page.text("answers").encode(), page.do("return at('passed').hidden")], [program("script", text=comment.encode())[1], True])
+    page.reload()
+    page.same("the choice is kept", page.do("return at('exact').checked"), True)
+    page.do("at('exact').click()")
+    both = "".join(SHELL_PLAIN.replace("eth0", it) for it in ("eth0", "eth1"))
+    page.set("text", both)
+    page.run()
+    page.same("two devices", page.text("passed"), "Line 4 is of device eth1, line 1 of eth0: one port answers all lines. Device, in the options, takes those of one.")
+    page.set("device", "eth1")
+    page.run()
+    page.same("one of two devices", [page.text("answers").encode(), page.text("passed")],
+              [program("script", "--device", "eth1", text=both.encode())[1], "Passed over: tc lines of other devices, such as eth0 (1 line, the first: 1)."])
+    page.set("device", "")
+
+
 def try_rows(page):
     """Only rows of classes of the map, and of frames, are shown; what lies in them is found and marked there; the legend is whole at each width."""
     page.choose("first.script")
@@ -1924,6 +2072,8 @@ def try_ink(page):
     page.browser.shoot(SHOTS / f"{page.browser.name}-selected.png")
     for job, example, lines in (("script", "first.script", WRONG_COMMANDS + WRONG_LINES), ("streams", "planned.streams", WRONG_STREAMS)):
         page.choose(example)
+        # (as they are pasted, some of these lines have no fault)
+        page.set("exact", True)
         for line in lines:
             text = f"{line}\n"
             wanted = marked_word(program(job, "--explain", text=text.encode())[2])
@@ -2452,7 +2602,7 @@ def try_looks(page):
     shoot(page, "replay")
 
 
-TRIES = [try_weight, try_examples, try_replay, try_typing, try_options, try_worked, try_faults, try_refused, try_zoom, try_keys, try_micros, try_moments, try_frames, try_reasons, try_why, try_drops, try_tips, try_marks, try_pictures, try_rows, try_shades, try_whole, try_bounds, try_paths, try_plan, try_timing, try_sharing, try_linux, try_compare, try_gates, try_imports, try_pcapng, try_changed, try_ink,
+TRIES = [try_weight, try_examples, try_replay, try_typing, try_options, try_worked, try_faults, try_refused, try_zoom, try_keys, try_micros, try_moments, try_frames, try_reasons, try_why, try_drops, try_tips, try_marks, try_pictures, try_rows, try_shades, try_whole, try_bounds, try_paths, try_plan, try_timing, try_sharing, try_linux, try_compare, try_gates, try_imports, try_pasted, try_pcapng, try_changed, try_ink,
          try_story, try_tabs, try_kept, try_long, try_files, try_forgotten, try_dates, try_stale, try_live, try_link, try_stop, try_blocks, try_access, try_screens, try_sizes, try_looks]
 
 
