@@ -1,7 +1,7 @@
 //! The devices of the commands that a port is given.
 
 use arrayvec::ArrayVec;
-use text::words::Words;
+use pasted::device_in;
 
 /// How many octets of a name are kept, to be shown: a device has 15 at most (netdevice(7)).
 const NAME: usize = 64;
@@ -11,17 +11,6 @@ const NAME: usize = 64;
 pub(crate) struct Named {
     pub number: u32,
     pub name: ArrayVec<u8, NAME>,
-}
-
-/// The word behind `dev` in a line.
-fn device_in(line: &[u8]) -> Option<&[u8]> {
-    let mut words = Words::new(line);
-    for _ in 0..line.len() {
-        if words.next_word()? == b"dev".as_slice() {
-            return words.next_word();
-        }
-    }
-    None
 }
 
 /// The line of a command with this number, where it names a device.
