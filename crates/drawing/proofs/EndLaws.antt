@@ -103,7 +103,7 @@ module _ (s : Setup) (o : DrawOptions) where
 
 -- 2. Runs through a buffer
 
-front_of_nothing : (old new : Option (List ℕ)) (text : List ℕ) → Keeps old new → AppendsFront old new text
+pub front_of_nothing : (old new : Option (List ℕ)) (text : List ℕ) → Keeps old new → AppendsFront old new text
 front_of_nothing None new text k = (text, record { done = []; appended = tt; parts = refl })
 front_of_nothing (Some x) None text k = absurd k
 front_of_nothing (Some x) (Some y) text k = (text, record { done = []; appended = k ∙ sym (append-nil x); parts = refl })

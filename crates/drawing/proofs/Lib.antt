@@ -1,4 +1,5 @@
 pub mod AxisLaws
+pub mod CaptureLaws
 pub mod CountLaws
 pub mod DigitLaws
 pub mod EndLaws
@@ -8,3 +9,4 @@ pub mod ShownLaws
 pub mod TakenLaws
 pub mod TextLaws
 pub mod WaitLaws
+pub mod WalkLaws

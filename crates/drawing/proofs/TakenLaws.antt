@@ -42,6 +42,11 @@ module _ (law : IsSettling) (q p : AbstractPort) (s : StandsFor q p) where
   same-drawn (Asks event) x = event-drawn event x
   same-drawn (NoCommand fault) x = refl
 
+-- what requests draw from one on
+pub request_drawn : (r : Request) (rest : List Request) (p : AbstractPort) (x : Course) → seen_after (events_of (r ∷ rest)) p x ≡ seen_after (events_of rest) (responses_to r p).1 (seen_by r p x)
+request_drawn (Asks event) rest p x = refl
+request_drawn (NoCommand fault) rest p x = refl
+
 module _ (read : List (List ℕ) → Result Command TcFault) where
   -- What known lines draw is what is drawn, and then what the lines to come draw.
   pub record Goes (p0 : AbstractPort) (x0 : Course) (all script : Script) (p : AbstractPort) (x : Course) : Type 0 where
@@ -68,11 +73,6 @@ module _ (read : List (List ℕ) → Result Command TcFault) where
   is_begun q x all sound = record { behind = q; stands = stands_for_itself q sound; goes = begun q x all }
 
   -- the lines from one with a request on
-  request_drawn : (r : Request) (rest : Reading) (p : AbstractPort) (x : Course)
-      → seen_after (events_of (r ∷ rest.requests)) p x ≡ seen_after (events_of rest.requests) (responses_to r p).1 (seen_by r p x)
-  request_drawn (Asks event) rest p x = refl
-  request_drawn (NoCommand fault) rest p x = refl
-
   request_port : (r : Request) (rest : Reading) (p : AbstractPort)
       → port_after (events_of (r ∷ rest.requests)) p ≡ port_after (events_of rest.requests) (responses_to r p).1
   request_port (Asks event) rest p = refl
@@ -91,7 +91,7 @@ module _ (read : List (List ℕ) → Result Command TcFault) where
       let same = line_reading script rest number line (Ok (Some r)) is e in
       let P : Option Script → Type 0 = λ u. GoesOn p0 x0 (Some all) u (responses_to r p).1 (seen_by r p x) in
       subst P (sym left) (record {
-        drawn = g.drawn ∙ ap (λ (y : Reading). seen_after (events_of y.requests) p x) same ∙ request_drawn r (reading_of read rest) p x;
+        drawn = g.drawn ∙ ap (λ (y : Reading). seen_after (events_of y.requests) p x) same ∙ request_drawn r (reading_of read rest).requests p x;
         port = g.port ∙ ap (λ (y : Reading). port_after (events_of y.requests) p) same ∙ request_port r (reading_of read rest) p;
         fault = g.fault ∙ ap (λ (y : Reading). y.fault) same;
       })

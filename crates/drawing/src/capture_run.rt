@@ -1,6 +1,6 @@
 //! Runs a script and a capture, and draws what happens.
 
-ghost use Rattle.std.specs.Prelude.{◌≡◌, ℕ, Err, IfSome, List, None, Ok, Result, Some, false, true};
+ghost use Rattle.std.specs.Prelude.{◌≡◌, ◌≤◌, ℕ, Err, IfSome, List, None, Ok, Result, Some, false, true};
 ghost use Rattle.text.specs.Writes.{Writes};
 ghost use Rattle.drawing.specs.Followed.{BandsTo};
 ghost use Rattle.drawing.specs.OfCapture.{BandsOfBoth, IsDrawnBeside, IsDrawnWhole, WhereWhole, asked_to, picture_read};
@@ -14,6 +14,7 @@ use crate::drawn::{Drawn, new_drawn};
 use crate::kept_lines::take_lines;
 use crate::options::DrawOptions;
 use crate::records::take_records;
+use abstract_port::separation::settling;
 use capture::{CAPTURE_END, CapFault, CaptureReader};
 use port_text::answer_text::WriteFault;
 use replay::{
@@ -66,7 +67,10 @@ fn take_both<A: Allocator, B: Allocator, C: Allocator, R: Read, H: Watch>(
 
 /// Up to which moment a run was to go on that came from one moment to another, in picoseconds.
 fn asked_to(until: Option<u128>, from: u128, to: u128) -> u128
-    ensures { result ≡ asked_to until from to }
+    requires from { from ≤ greatest_moment }
+    requires to { to ≤ greatest_moment }
+    ensures value { result ≡ asked_to until from to }
+    ensures within { result ≤ greatest_moment }
 {
     match until {
         None => from,
@@ -131,6 +135,7 @@ fn draw_both<A: Allocator, B: Allocator, C: Allocator, R: Read, W: Write, H: Wat
         (kept_requests read script.now.octets.items script.now.lines.items)
         (Ok (entries, last)) bands)) }
 {
+    settling();
     let broken = take_both(drawn, script, records, settings, options, watch)?;
     draw_end_of_both(drawn, writer, settings, options)?;
     ended_by(broken)
