@@ -1,5 +1,5 @@
 -- A run on a script and a capture that is drawn, from what its parts leave.
-use Rattle.std.proofs.Common.{◌≡◌, ◌++◌, ℕ, List, length, false, Option, Some, None, Result, Ok, Err, refl, sym, ap, ap₂, ◌∙◌, subst}
+use Rattle.std.proofs.Common.{◌≡◌, ◌++◌, ℕ, List, length, false, true, Option, Some, None, Result, Ok, Err, inl, inr, refl, sym, ap, ap₂, ◌∙◌, subst}
 use Rattle.std.specs.Prelude.{IfSome}
 use Rattle.std.specs.Io.KnownBytes.{Appends, Keeps}
 use Rattle.std.proofs.KnownBytes.{Keeps-refl}
@@ -118,8 +118,16 @@ module _ (read : List (List ℕ) → Result Command TcFault) (s : Setup) (o : Dr
   pub nothing_kept : {T : Type 0} {r : Result T (Fault ReplayInput)} (old : Option (List ℕ)) → r ≡ Err Faults.Memory → IsDrawnBeside read s o lines records r old old
   nothing_kept {T} {r} old e = subst (λ (q : Result T (Fault ReplayInput)). IsDrawnBeside read s o lines records q old old) (sym e) (with_some (tt, Keeps-refl old))
 
-  nothing_read : {T : Type 0} (old : Option (List ℕ)) → IsDrawnBeside read s o lines records {T = T} (Err Faults.Read) old old
+  nothing_read : {T : Type 0} (old : Option (List ℕ)) → IsDrawnBeside {T = T} read s o lines records (Err Faults.Read) old old
   nothing_read old = with_some (tt, Keeps-refl old)
+
+  -- the moment to run to is too late
+  pub late_refused : is_too_late s.until ≡ true → (old : Option (List ℕ)) → IsDrawnBeside {T = Unit {0}} read s o lines records (Err (Faults.Input Inputs.Until)) old old
+  late_refused late old =
+      let b = new_drawing 0 None in
+      let is : picture_of_capture read s o lines records b ≡ refused Inputs.Until = rw late refl in
+      let P : Outcome ReplayInput → Type 0 = λ whole. IsDrawnWhole {T = Unit {0}} (Err (Faults.Input Inputs.Until)) old old whole in
+      with_some (tt, subst P (sym is) (refl, Appends-nil old))
 
   module _ (late : is_too_late s.until ≡ false) where
     now : (b : Drawing) → picture_of_capture read s o lines records b ≡ picture_said s o (Beside.reading_of read (script_of lines)).requests (Beside.reading_of read (script_of lines)).fault records b
@@ -129,7 +137,7 @@ module _ (read : List (List ℕ) → Result Command TcFault) (s : Setup) (o : Dr
     picture_good e b = now b ∙ ap (λ (f : Option BadLine). picture_said s o (Beside.reading_of read (script_of lines)).requests f records b) e
 
     -- the script has a fault, or can't be read
-    pub script_refused : {T : Type 0} (fault : Fault ReplayInput) (old : Option (List ℕ)) → IsScriptFault fault (Beside.reading_of read (script_of lines)) → IsDrawnBeside read s o lines records {T = T} (Err fault) old old
+    pub script_refused : {T : Type 0} (fault : Fault ReplayInput) (old : Option (List ℕ)) → IsScriptFault fault (Beside.reading_of read (script_of lines)) → IsDrawnBeside {T = T} read s o lines records (Err fault) old old
     script_refused {T} (Faults.Input (Inputs.Script bad)) old h =
         let b = new_drawing 0 None in
         let P : Outcome ReplayInput → Type 0 = λ whole. IsDrawnWhole {T = T} (Err (Faults.Input (Inputs.Script bad))) old old whole in
@@ -147,7 +155,7 @@ module _ (read : List (List ℕ) → Result Command TcFault) (s : Setup) (o : Dr
 
     -- the header of the capture has a fault, or can't be read
     pub header_refused : {T : Type 0} (octets : List ℕ) → ReadsAs octets records → (Beside.reading_of read (script_of lines)).fault ≡ None → (known : Option (List ℕ)) → known ≡ Some octets → (fault : Fault ReplayInput) (old : Option (List ℕ)) → IsOpenFault known fault
-        → IsDrawnBeside read s o lines records {T = T} (Err fault) old old
+        → IsDrawnBeside {T = T} read s o lines records (Err fault) old old
     header_refused {T} octets reads good known is (Faults.Input (Inputs.Capture number fault)) old h =
         let b = new_drawing 0 None in
         let P : Outcome ReplayInput → Type 0 = λ whole. IsDrawnWhole {T = T} (Err (Faults.Input (Inputs.Capture number fault))) old old whole in
