@@ -8,7 +8,7 @@ use Rattle.drawing.proofs.EndLaws.{map_bands}
 use Rattle.drawing.proofs.capture_run.draw_end_of_both.Goals as goal
 
 pub draw_ended-requires : goal.draw_ended-requires
-draw_ended-requires g c = (search rules, c.asked_to-asked.ensures.within)
+draw_ended-requires g c = (search rules, (search rules, (search rules, c.asked_to-asked.ensures.within)))
 
 pub returns : goal.returns
 returns g c =

@@ -11,6 +11,9 @@ returns-in_err-broken g c = λ read is entries last comes.
     let P : Result (Option (ℕ × CapFault)) Stop → Type 0 = λ r. DrawsBoth c.args.settings c.args.options script entries last r (place c.args.port.now.port c.args.course.now c.args.bands.now) (place c.take_records.new.port.port c.take_records.new.course c.take_records.new.bands) in
     subst P (sym (p.1 ∙ ap Err p.2)) (c.in_err-broken.ensures read is entries last comes)
 
+pub take_lines-requires : goal.take_lines-requires
+take_lines-requires g c = search c.requires-raw
+
 pub returns : goal.returns
 returns g c = λ read is entries last comes.
     let script = kept_requests read c.args.script.now.octets.items c.args.script.now.lines.items in
