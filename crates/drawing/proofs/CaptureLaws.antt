@@ -1,5 +1,5 @@
 -- A run on a script and a capture that is drawn, from what its parts leave.
-use Rattle.std.proofs.Common.{◌≡◌, ◌++◌, ℕ, List, length, false, Option, Some, None, Result, Ok, Err, refl, sym, ap, ap₂, ◌∙◌, subst}
+use Rattle.std.proofs.Common.{◌≡◌, ◌++◌, ℕ, List, length, false, true, Option, Some, None, Result, Ok, Err, inl, inr, refl, sym, ap, ap₂, ◌∙◌, subst}
 use Rattle.std.specs.Prelude.{IfSome}
 use Rattle.std.specs.Io.KnownBytes.{Appends, Keeps}
 use Rattle.std.proofs.KnownBytes.{Keeps-refl}
@@ -118,8 +118,16 @@ module _ (read : List (List ℕ) → Result Command TcFault) (s : Setup) (o : Dr
   pub nothing_kept : {T : Type 0} {r : Result T (Fault ReplayInput)} (old : Option (List ℕ)) → r ≡ Err Faults.Memory → IsDrawnBeside read s o lines records r old old
   nothing_kept {T} {r} old e = subst (λ (q : Result T (Fault ReplayInput)). IsDrawnBeside read s o lines records q old old) (sym e) (with_some (tt, Keeps-refl old))
 
-  nothing_read : {T : Type 0} (old : Option (List ℕ)) → IsDrawnBeside read s o lines records {T = T} (Err Faults.Read) old old
+  nothing_read : (old : Option (List ℕ)) → IsDrawnBeside {T = Unit {0}} read s o lines records (Err Faults.Read) old old
   nothing_read old = with_some (tt, Keeps-refl old)
+
+  -- the moment to run to is too late
+  pub late_refused : is_too_late s.until ≡ true → (old : Option (List ℕ)) → IsDrawnBeside {T = Unit {0}} read s o lines records (Err (Faults.Input Inputs.Until)) old old
+  late_refused late old =
+      let b = new_drawing 0 None in
+      let is : picture_of_capture read s o lines records b ≡ refused Inputs.Until = rw late refl in
+      let P : Outcome ReplayInput → Type 0 = λ whole. IsDrawnWhole {T = Unit {0}} (Err (Faults.Input Inputs.Until)) old old whole in
+      with_some (tt, subst P (sym is) (refl, Appends-nil old))
 
   module _ (late : is_too_late s.until ≡ false) where
     now : (b : Drawing) → picture_of_capture read s o lines records b ≡ picture_said s o (Beside.reading_of read (script_of lines)).requests (Beside.reading_of read (script_of lines)).fault records b
@@ -129,13 +137,13 @@ module _ (read : List (List ℕ) → Result Command TcFault) (s : Setup) (o : Dr
     picture_good e b = now b ∙ ap (λ (f : Option BadLine). picture_said s o (Beside.reading_of read (script_of lines)).requests f records b) e
 
     -- the script has a fault, or can't be read
-    pub script_refused : {T : Type 0} (fault : Fault ReplayInput) (old : Option (List ℕ)) → IsScriptFault fault (Beside.reading_of read (script_of lines)) → IsDrawnBeside read s o lines records {T = T} (Err fault) old old
-    script_refused {T} (Faults.Input (Inputs.Script bad)) old h =
+    pub script_refused : (fault : Fault ReplayInput) (old : Option (List ℕ)) → IsScriptFault fault (Beside.reading_of read (script_of lines)) → IsDrawnBeside {T = Unit {0}} read s o lines records (Err fault) old old
+    script_refused (Faults.Input (Inputs.Script bad)) old h =
         let b = new_drawing 0 None in
-        let P : Outcome ReplayInput → Type 0 = λ whole. IsDrawnWhole {T = T} (Err (Faults.Input (Inputs.Script bad))) old old whole in
+        let P : Outcome ReplayInput → Type 0 = λ whole. IsDrawnWhole {T = Unit {0}} (Err (Faults.Input (Inputs.Script bad))) old old whole in
         with_some (tt, subst P (sym (now b ∙ ap (λ (f : Option BadLine). picture_said s o (Beside.reading_of read (script_of lines)).requests f records b) h)) (refl, Appends-nil old))
     script_refused Faults.Read old h = nothing_read old
-    script_refused Faults.Memory old h = nothing_kept old refl
+    script_refused Faults.Memory old h = nothing_kept {T = Unit {0}} {r = Err Faults.Memory} old refl
     script_refused Faults.Write old h = absurd h
     script_refused (Faults.Input Inputs.Until) old h = absurd h
     script_refused (Faults.Input (Inputs.Capture number fault)) old h = absurd h
@@ -146,15 +154,15 @@ module _ (read : List (List ℕ) → Result Command TcFault) (s : Setup) (o : Dr
     header_read octets fault (Err f) reads e b = (tt, (let both : Err f ≡ Err fault = sym reads ∙ e in cc))
 
     -- the header of the capture has a fault, or can't be read
-    pub header_refused : {T : Type 0} (octets : List ℕ) → ReadsAs octets records → (Beside.reading_of read (script_of lines)).fault ≡ None → (known : Option (List ℕ)) → known ≡ Some octets → (fault : Fault ReplayInput) (old : Option (List ℕ)) → IsOpenFault known fault
-        → IsDrawnBeside read s o lines records {T = T} (Err fault) old old
-    header_refused {T} octets reads good known is (Faults.Input (Inputs.Capture number fault)) old h =
+    pub header_refused : (octets : List ℕ) → ReadsAs octets records → (Beside.reading_of read (script_of lines)).fault ≡ None → (known : Option (List ℕ)) → known ≡ Some octets → (fault : Fault ReplayInput) (old : Option (List ℕ)) → IsOpenFault known fault
+        → IsDrawnBeside {T = Unit {0}} read s o lines records (Err fault) old old
+    header_refused octets reads good known is (Faults.Input (Inputs.Capture number fault)) old h =
         let b = new_drawing 0 None in
-        let P : Outcome ReplayInput → Type 0 = λ whole. IsDrawnWhole {T = T} (Err (Faults.Input (Inputs.Capture number fault))) old old whole in
+        let P : Outcome ReplayInput → Type 0 = λ whole. IsDrawnWhole {T = Unit {0}} (Err (Faults.Input (Inputs.Capture number fault))) old old whole in
         let both = header_read octets fault records reads (known_at known octets _ is h.1) b in
         with_some (both.0, subst P (sym (picture_good good b ∙ both.1 ∙ ap (λ (n : ℕ). refused (Inputs.Capture n fault)) (sym h.0))) (refl, Appends-nil old))
     header_refused octets reads good known is Faults.Read old h = nothing_read old
-    header_refused octets reads good known is Faults.Memory old h = nothing_kept old refl
+    header_refused octets reads good known is Faults.Memory old h = nothing_kept {T = Unit {0}} {r = Err Faults.Memory} old refl
     header_refused octets reads good known is Faults.Write old h = absurd h
     header_refused octets reads good known is (Faults.Input Inputs.Until) old h = absurd h
     header_refused octets reads good known is (Faults.Input (Inputs.Script bad)) old h = absurd h

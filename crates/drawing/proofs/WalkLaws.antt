@@ -48,8 +48,7 @@ module _ (s : Setup) (o : DrawOptions) where
   drawn_for law [] x y p stands is = (ap (λ (u : Place). u.port) is ∙ stands.same, ap (λ (u : Place). u.course) is)
   drawn_for law (r ∷ rest) x y p stands (mid, (one, all)) =
       let more = drawn_for law rest mid y (responses_to r p).1 (stands-after law x.port p stands r mid.port one.port one.sound) all in
-      let same = one.course ∙ same-drawn law x.port p stands r x.course in
-      (
+      let same = one.course ∙ same-drawn law x.port p stands r x.course in (
         more.0 ∙ ap settled (sym (events-more r rest p)),
         more.1 ∙ ap (λ (c : Course). seen_after (events_of rest) (responses_to r p).1 c) same ∙ sym (request_drawn r rest p x.course),
       )

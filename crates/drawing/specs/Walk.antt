@@ -17,7 +17,6 @@ use Rattle.drawing.specs.Course.{Course}
 use Rattle.drawing.specs.Followed.{BandsBy, first_bands}
 use Rattle.drawing.specs.PictureEnd.{first_course}
 use Rattle.drawing.specs.Taken.{seen_by}
-use Rattle.drawing.specs.declared.drawn.Drawn.{Drawn}
 use Rattle.drawing.specs.declared.options.DrawOptions.{DrawOptions}
 
 -- a port, what is drawn of it so far, and its bands
@@ -26,12 +25,12 @@ pub record Place : Type 0 where
   pub course : Course
   pub bands : Drawing
 
-abbrev pub place : {A : Type 0} → Drawn A → Place
-place d = record { port = d.port.port; course = d.course; bands = d.bands }
+abbrev pub place : AbstractPort → Course → Drawing → Place
+place port course bands = record { port = port; course = course; bands = bands }
 
 -- a new port, of which nothing is drawn
 abbrev pub first_place : Setup → DrawOptions → Place
-first_place s o = record { port = new_port s.rate s.mtu s.room; course = first_course s o; bands = first_bands o }
+first_place s o = place (new_port s.rate s.mtu s.room) (first_course s o) (first_bands o)
 
 -- a request is drawn
 pub record DrawsOne (s : Setup) (o : DrawOptions) (r : Request) (from upto : Place) : Type 0 where

@@ -9,26 +9,30 @@ ghost use Rattle.drawing.specs.Words.{CapFault, Command, Comes, DrawsBoth, End, 
 ghost use Rattle.job.specs.declared.fault.Fault.TheVariants as Faults;
 ghost use Rattle.replay.specs.declared.faults.ReplayInput.TheVariants as Inputs;
 
+use crate::course::Course;
 use crate::draw_run::{draw_ended, run_on};
-use crate::drawn::{Drawn, new_drawn};
+use crate::drawn::new_drawn;
 use crate::kept_lines::take_lines;
 use crate::options::DrawOptions;
 use crate::records::take_records;
 use abstract_port::separation::settling;
 use capture::{CAPTURE_END, CapFault, CaptureReader};
+use picture::Bands;
 use port_text::answer_text::WriteFault;
 use replay::{
     Cursor, KeptScript, ReplayFault, ReplayInput, Stop, ended_by, is_too_late, open_capture,
     read_script, run_end,
 };
-use script::{Settings, Watch};
+use script::{RunningPort, Settings, Watch};
 use std::alloc::{Allocator, Global};
 use std::io::{Read, Write};
 
 /// Takes the records and the lines, to the end of both, which are drawn. The number of the record at which the capture
 /// ends with a fault, and the fault.
 fn take_both<A: Allocator, B: Allocator, C: Allocator, R: Read, H: Watch>(
-    drawn: &mut Drawn<A>,
+    port: &mut RunningPort<A>,
+    bands: &mut Bands<A>,
+    course: &mut Course<A>,
     script: &KeptScript<B>,
     records: &mut CaptureReader<R, C>,
     settings: Settings,
@@ -41,11 +45,13 @@ fn take_both<A: Allocator, B: Allocator, C: Allocator, R: Read, H: Watch>(
         (entries : List Entry) (last : End) → Comes R.remaining (left records.old) entries last →
         DrawsBoth settings options
         (kept_requests read script.now.octets.items script.now.lines.items) entries last result
-        (place drawn.old) (place drawn.new) }
+        (place port.old.port course.old bands.old) (place port.new.port course.new bands.new) }
 {
     let mut cursor = Cursor { at: 0, clock: 0 };
     let broken = take_records(
-        drawn,
+        port,
+        bands,
+        course,
         script,
         &mut cursor,
         records,
@@ -54,7 +60,9 @@ fn take_both<A: Allocator, B: Allocator, C: Allocator, R: Read, H: Watch>(
         watch,
     )?;
     take_lines(
-        drawn,
+        port,
+        bands,
+        course,
         script,
         &mut cursor,
         CAPTURE_END,
@@ -81,37 +89,33 @@ fn asked_to(until: Option<u128>, from: u128, to: u128) -> u128
 /// Runs on to the moment that the settings give, or where they give none until no frame can start any more; and then to
 /// the end of the picture, and writes it.
 fn draw_end_of_both<A: Allocator, W: Write>(
-    drawn: &mut Drawn<A>,
+    port: &mut RunningPort<A>,
+    bands: &mut Bands<A>,
+    course: &mut Course<A>,
     writer: &mut W,
     settings: Settings,
     options: DrawOptions,
 ) -> Result<(), WriteFault>
     requires { is_too_late settings.until ≡ false }
     ensures { ForSomeBands
-        (λ b. BandsTo (Some (run_end settings.until)) settings options drawn.old.port.port
-        drawn.old.course drawn.old.bands b
+        (λ b. BandsTo (Some (run_end settings.until)) settings options port.old.port
+        course.old bands.old b
         × Writes result (W.contents writer.old) (W.contents writer.new)
-        (picture_to (Some (run_end settings.until)) settings options drawn.old.port.port
-        drawn.old.course b)) }
+        (picture_to (Some (run_end settings.until)) settings options port.old.port
+        course.old b)) }
 {
-    let from = drawn.port.now();
+    let from = port.now();
     let until = settings.until();
-    run_on(&mut drawn.port, &mut drawn.course, Some(run_end(until)));
-    let asked = asked_to(until, from, drawn.port.now());
-    draw_ended(
-        &mut drawn.port,
-        &mut drawn.bands,
-        &mut drawn.course,
-        writer,
-        settings,
-        options,
-        asked,
-    )
+    run_on(port, course, Some(run_end(until)));
+    let asked = asked_to(until, from, port.now());
+    draw_ended(port, bands, course, writer, settings, options, asked)
 }
 
 /// Draws the run of a kept script and of the records of a capture, of which nothing is drawn yet.
 fn draw_both<A: Allocator, B: Allocator, C: Allocator, R: Read, W: Write, H: Watch>(
-    drawn: &mut Drawn<A>,
+    port: &mut RunningPort<A>,
+    bands: &mut Bands<A>,
+    course: &mut Course<A>,
     script: &KeptScript<B>,
     records: &mut CaptureReader<R, C>,
     writer: &mut W,
@@ -122,8 +126,8 @@ fn draw_both<A: Allocator, B: Allocator, C: Allocator, R: Read, W: Write, H: Wat
     requires until { is_too_late settings.until ≡ false }
     requires begun { (left records.old).ended ≡ None }
     requires first { (left records.old).number ≡ 0 }
-    requires place { place drawn.old ≡ first_place settings options }
-    requires sound { IsSoundPort drawn.old.port.port }
+    requires place { place port.old.port course.old bands.old ≡ first_place settings options }
+    requires sound { IsSoundPort port.old.port }
     ensures { (read : List (List ℕ) → Result Command TcFault) → IsReader read →
         (entries : List Entry) (last : End) → Comes R.remaining (left records.old) entries last →
         ForSomeBands
@@ -136,8 +140,10 @@ fn draw_both<A: Allocator, B: Allocator, C: Allocator, R: Read, W: Write, H: Wat
         (Ok (entries, last)) bands)) }
 {
     settling();
-    let broken = take_both(drawn, script, records, settings, options, watch)?;
-    draw_end_of_both(drawn, writer, settings, options)?;
+    let broken = take_both(
+        port, bands, course, script, records, settings, options, watch,
+    )?;
+    draw_end_of_both(port, bands, course, writer, settings, options)?;
     ended_by(broken)
 }
 
@@ -174,7 +180,9 @@ pub fn draw_capture<R: Read + Drop, S: Read + Drop, W: Write, H: Watch>(
     let mut records = open_capture(&alloc, capture)?;
     let mut drawn = new_drawn(&alloc, settings, options)?;
     draw_both(
-        &mut drawn,
+        &mut drawn.port,
+        &mut drawn.bands,
+        &mut drawn.course,
         &script,
         &mut records,
         writer,

@@ -28,7 +28,7 @@ pub(crate) fn new_drawn(
     settings: Settings,
     options: DrawOptions,
 ) -> Result<Drawn<Global>, AllocError>
-    ensures place { IfOk result (λ d. place d ≡ first_place settings options) }
+    ensures place { IfOk result (λ d. place d.port.port d.course d.bands ≡ first_place settings options) }
     ensures sound { IfOk result (λ d. IsSoundPort d.port.port) }
 {
     let rate = settings.rate();

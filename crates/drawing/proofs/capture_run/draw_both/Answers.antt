@@ -17,7 +17,7 @@ returns-in_err-draw_end_of_both g c = λ read is entries last comes.
     let p = err_from_is_err_and c.from_residual-in_err-draw_end_of_both.result c.from_residual-in_err-draw_end_of_both.ensures.1 in
     let script = kept_requests read c.args.script.now.octets.items c.args.script.now.lines.items in
     let drawn = c.in_ok-broken.ensures read is entries last comes in
-    both_short c.args.settings c.args.options script entries last c.settling.ensures (place c.args.drawn.now) (place c.take_both.new.drawn) c.requires.place c.requires.sound drawn.1 _ _ (p.1 ∙ ap Err p.2) c.in_err-draw_end_of_both.ensures
+    both_short c.args.settings c.args.options script entries last c.settling.ensures (place c.args.port.now.port c.args.course.now c.args.bands.now) (place c.take_both.new.port.port c.take_both.new.course c.take_both.new.bands) c.requires.place c.requires.sound drawn.1 _ _ (p.1 ∙ ap Err p.2) c.in_err-draw_end_of_both.ensures
 
 pub returns : goal.returns
 returns g c = λ read is entries last comes.
@@ -28,4 +28,4 @@ returns g c = λ read is entries last comes.
     let old = g.W.Write.contents c.args.writer.now in
     let new = g.W.Write.contents c.draw_end_of_both.new.writer in
     let P : Result (Unit {0}) (Fault ReplayInput) → Type 0 = λ r. ForSomeBands (λ b. WhereWhole r (BandsOfBoth s o script entries b) × IsDrawnWhole r old new (picture_read s o script (Ok (entries, last)) b)) in
-    subst P (sym c.ended_by.ensures) (both_whole s o script entries last c.settling.ensures (place c.args.drawn.now) (place c.take_both.new.drawn) c.requires.place c.requires.sound drawn.1 c.in_ok-broken.broken old new drawn.0 c.in_ok-draw_end_of_both.ensures)
+    subst P (sym c.ended_by.ensures) (both_whole s o script entries last c.settling.ensures (place c.args.port.now.port c.args.course.now c.args.bands.now) (place c.take_both.new.port.port c.take_both.new.course c.take_both.new.bands) c.requires.place c.requires.sound drawn.1 c.in_ok-broken.broken old new drawn.0 c.in_ok-draw_end_of_both.ensures)

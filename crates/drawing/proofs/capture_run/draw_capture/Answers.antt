@@ -1,9 +1,15 @@
-use Rattle.std.proofs.Common.{List, Ok, Err, Result, false, ◌≡◌, sym, ap, ◌∙◌, subst}
+use Rattle.std.proofs.Common.{List, Ok, Err, Result, false, true, ◌≡◌, sym, ap, ◌∙◌, subst}
 use Rattle.std.proofs.lemmas.Result.{err_from_is_err_and}
 use Rattle.replay.proofs.ReplayLaws.{comes_new, opened, when_known}
 use Rattle.drawing.specs.Words.{CapFault, End, Entry, IsDrawnBeside, ReadsAs, is_too_late, left}
-use Rattle.drawing.proofs.CaptureLaws.{both_good, header_refused, nothing_kept, script_refused}
+use Rattle.drawing.proofs.CaptureLaws.{both_good, header_refused, late_refused, nothing_kept, script_refused}
 use Rattle.drawing.proofs.capture_run.draw_capture.Goals as goal
+
+pub returns-then-is_too_late-clause-picture : goal.returns-then-is_too_late-clause-picture
+returns-then-is_too_late-clause-picture g c = λ read is. (
+    let late : is_too_late c.args.settings.until ≡ true = sym (ap is_too_late c.until.ensures.value) ∙ sym c.is_too_late.ensures ∙ c.if-is_too_late.true in
+    when_known (g.R.Read.remaining c.args.script) _ (λ lines known. when_known (g.S.Read.remaining c.args.capture) _ (λ octets known'. λ records reads.
+    late_refused read c.args.settings c.args.options lines records late (g.W.Write.contents c.args.writer.now))))
 
 pub returns-in_err-script-clause-picture : goal.returns-in_err-script-clause-picture
 returns-in_err-script-clause-picture g c = λ read is. (

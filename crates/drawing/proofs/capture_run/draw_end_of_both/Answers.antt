@@ -1,4 +1,4 @@
-use Rattle.std.proofs.Common.{List, ℕ, Option, Some, ap, ap₂, sym, ◌∙◌, subst}
+use Rattle.std.proofs.Common.{List, ℕ, Option, Some, ap, ap₂, sym, ◌∙◌, subst, rules}
 use Rattle.text.specs.Writes.{Writes}
 use Rattle.drawing.specs.Followed.{BandsShown}
 use Rattle.drawing.specs.PictureEnd.{end_text}
@@ -7,13 +7,16 @@ use Rattle.drawing.proofs.CaptureLaws.{asked_is}
 use Rattle.drawing.proofs.EndLaws.{map_bands}
 use Rattle.drawing.proofs.capture_run.draw_end_of_both.Goals as goal
 
+pub draw_ended-requires : goal.draw_ended-requires
+draw_ended-requires g c = (search rules, (search rules, (search rules, c.asked_to-asked.ensures.within)))
+
 pub returns : goal.returns
 returns g c =
     let s = c.args.settings in
     let o = c.args.options in
-    let p = c.args.drawn.now.port.port in
-    let x = c.args.drawn.now.course in
-    let d = c.args.drawn.now.bands in
+    let p = c.args.port.now.port in
+    let x = c.args.course.now in
+    let d = c.args.bands.now in
     let upto = c.run_end.ensures.moment ∙ ap (λ (u : Option ℕ). run_end u) c.until-until.ensures.value in
     let port = c.run_on.ensures.port ∙ ap (λ (m : ℕ). port_on (Some m) p) upto in
     let course = c.run_on.ensures.course ∙ ap (λ (m : ℕ). course_on (Some m) p x) upto in

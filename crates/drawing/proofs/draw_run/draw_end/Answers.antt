@@ -1,10 +1,13 @@
-use Rattle.std.proofs.Common.{List, ℕ, Option, ap, ap₂, ◌∙◌, subst}
+use Rattle.std.proofs.Common.{◌≤◌, List, ℕ, Option, sym, ap, ap₂, ◌∙◌, subst, rules}
 use Rattle.text.specs.Writes.{Writes}
-use Rattle.drawing.specs.Words.{AbstractPort, Course, course_on, port_on}
+use Rattle.drawing.specs.Words.{AbstractPort, Course, course_on, greatest_moment, port_on}
 use Rattle.drawing.specs.Followed.{BandsShown}
 use Rattle.drawing.specs.PictureEnd.{end_text}
 use Rattle.drawing.proofs.EndLaws.{map_bands}
 use Rattle.drawing.proofs.draw_run.draw_end.Goals as goal
+
+pub draw_ended-requires : goal.draw_ended-requires
+draw_ended-requires g c = (search rules, (search rules, (search rules, subst (λ (m : ℕ). m ≤ greatest_moment) (sym c.now-asked.ensures.now) c.now-asked.ensures.sound.current.within)))
 
 pub returns : goal.returns
 returns g c =

@@ -3,12 +3,12 @@ use Rattle.abstract_port.specs.AbstractPort.{new_port}
 use Rattle.picture.specs.Drawn.{Drawing, new_drawing}
 use Rattle.script.specs.Words.{PortState}
 use Rattle.drawing.specs.PictureEnd.{first_course}
-use Rattle.drawing.specs.Words.{AbstractPort, Course, Place, place}
+use Rattle.drawing.specs.Words.{AbstractPort, Course, Place}
 use Rattle.drawing.specs.declared.view.View.{View}
 use Rattle.drawing.proofs.drawn.new_drawn.Goals as goal
 
 pub returns-clause-place : goal.returns-clause-place
-returns-clause-place g c =
+returns-clause-place c =
     let s = c.args.settings in
     let o = c.args.options in
     let port = ap (λ (q : PortState). q.port) c.in-Ok.ensures.ok

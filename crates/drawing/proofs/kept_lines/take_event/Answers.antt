@@ -5,5 +5,5 @@ use Rattle.drawing.proofs.kept_lines.take_event.Goals as goal
 pub returns : goal.returns
 returns g c =
     let t = c.take_asked.ensures in
-    one_drawn c.args.settings c.args.options (Asks c.args.event.now) (place c.args.drawn.now) (record { port = c.take_asked.new.port.port; course = c.take_asked.new.course; bands = c.take_asked.new.bands })
+    one_drawn c.args.settings c.args.options (Asks c.args.event.now) (place c.args.port.now.port c.args.course.now c.args.bands.now) (record { port = c.take_asked.new.port.port; course = c.take_asked.new.course; bands = c.take_asked.new.bands })
     (record { port = t.port; course = t.course; bands = t.bands; sound = t.sound })

@@ -1,12 +1,12 @@
-use Rattle.std.proofs.Common.{[], List, refl, sym, ap, ◌∙◌, subst}
-use Rattle.drawing.specs.Words.{Request, lines_by, lines_left, place, requests_of}
+use Rattle.std.proofs.Common.{◌∷◌, [], List, refl, sym, ap, ◌∙◌, subst}
+use Rattle.drawing.specs.Words.{Request, kept_request, lines_by, lines_left, place, requests_of}
 use Rattle.drawing.proofs.WalkLaws.{Stands, all_drawn, begun, goes_on}
 use Rattle.drawing.proofs.kept_lines.take_lines.Goals as goal
 
 pub loop-line-init : goal.loop-line-init
 loop-line-init g c = record {
   left = λ read is. refl;
-  taken = λ read is. begun c.args.settings c.args.options (requests_of (lines_by c.args.upto (lines_left read c.args.script.now c.args.cursor.now))) (place c.args.drawn.now);
+  taken = λ read is. begun c.args.settings c.args.options (requests_of (lines_by c.args.upto (lines_left read c.args.script.now c.args.cursor.now))) (place c.args.port.now.port c.args.course.now c.args.bands.now);
 }
 
 pub loop-line-preserved : goal.loop-line-preserved
@@ -17,8 +17,8 @@ loop-line-preserved g c =
       taken = λ read is.
           let all = requests_of (lines_by c.args.upto (lines_left read c.args.script.now c.args.cursor.now)) in
           let behind = requests_of (lines_by c.args.upto (lines_left read c.args.script.now c.line_by.new.cursor)) in
-          let P : List Request → Type 0 = λ rs. Stands c.args.settings c.args.options all (place c.args.drawn.now) (place c.loop-line.drawn) rs in
-          goes_on c.args.settings c.args.options all _ behind (place c.args.drawn.now) (place c.loop-line.drawn) (place c.take_line.new.drawn) (subst P (c.in-Some.ensures.line read is).0 (i.taken read is)) (c.take_line.ensures read is);
+          let P : List Request → Type 0 = λ rs. Stands c.args.settings c.args.options all (place c.args.port.now.port c.args.course.now c.args.bands.now) (place c.loop-line.port.port c.loop-line.course c.loop-line.bands) rs in
+          goes_on c.args.settings c.args.options all (kept_request read c.args.script.now.octets.items c.in-Some.line ∷ []) behind (place c.args.port.now.port c.args.course.now c.args.bands.now) (place c.loop-line.port.port c.loop-line.course c.loop-line.bands) (place c.take_line.new.port.port c.take_line.new.course c.take_line.new.bands) (subst P (c.in-Some.ensures.line read is).0 (i.taken read is)) (c.take_line.ensures read is);
     }
 
 pub returns-clause-left : goal.returns-clause-left
@@ -29,5 +29,5 @@ returns-clause-left g c = λ read is.
 pub returns-clause-taken : goal.returns-clause-taken
 returns-clause-taken g c = λ read is.
     let all = requests_of (lines_by c.args.upto (lines_left read c.args.script.now c.args.cursor.now)) in
-    let P : List Request → Type 0 = λ rs. Stands c.args.settings c.args.options all (place c.args.drawn.now) (place c.loop-line.drawn) rs in
-    all_drawn c.args.settings c.args.options all (place c.args.drawn.now) (place c.loop-line.drawn) (subst P (c.in_default.ensures.line read is).1 (c.loop-line.invariant.taken read is))
+    let P : List Request → Type 0 = λ rs. Stands c.args.settings c.args.options all (place c.args.port.now.port c.args.course.now c.args.bands.now) (place c.loop-line.port.port c.loop-line.course c.loop-line.bands) rs in
+    all_drawn c.args.settings c.args.options all (place c.args.port.now.port c.args.course.now c.args.bands.now) (place c.loop-line.port.port c.loop-line.course c.loop-line.bands) (subst P (c.in_default.ensures.line read is).1 (c.loop-line.invariant.taken read is))

@@ -9,7 +9,7 @@ invariant-loop-line g l = record {
   left : (read : List (List ℕ) → Result Command TcFault) → IsReader read →
       lines_past l.upto (lines_left read l.script l.cursor) ≡ lines_past l.upto (lines_left read l.script l.fn.cursor);
   taken : (read : List (List ℕ) → Result Command TcFault) → IsReader read →
-      Stands l.settings l.options (requests_of (lines_by l.upto (lines_left read l.script l.fn.cursor))) (place l.fn.drawn) (place l.drawn) (requests_of (lines_by l.upto (lines_left read l.script l.cursor)));
+      Stands l.settings l.options (requests_of (lines_by l.upto (lines_left read l.script l.fn.cursor))) (place l.fn.port.port l.fn.course l.fn.bands) (place l.port.port l.course l.bands) (requests_of (lines_by l.upto (lines_left read l.script l.cursor)));
 }
 
 abbrev pub decreases-loop-line : goal.decreases-loop-line

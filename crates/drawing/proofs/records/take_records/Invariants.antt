@@ -11,7 +11,7 @@ invariant-records g l = record {
   going : (left l.records).ended ≡ None;
   numbered : (left l.records).number ≡ l.number;
   at : (read : List (List ℕ) → Result Command TcFault) → IsReader read → (entries : List Entry) (last : End) → Comes g.R.Read.remaining (left l.fn.records) entries last →
-      Taken (Stands l.settings l.options (before_end (lines_left read l.script l.fn.cursor) (came_from 0 0 entries)) (place l.fn.drawn) (place l.drawn))
+      Taken (Stands l.settings l.options (before_end (lines_left read l.script l.fn.cursor) (came_from 0 0 entries)) (place l.fn.port.port l.fn.course l.fn.bands) (place l.port.port l.course l.bands))
       g.R.Read.remaining entries last (left l.records) l.latest l.number (lines_left read l.script l.fn.cursor) (lines_left read l.script l.cursor);
 }
 
