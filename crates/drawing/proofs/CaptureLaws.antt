@@ -1,9 +1,8 @@
 -- A run on a script and a capture that is drawn, from what its parts leave.
-use Rattle.std.proofs.Common.{◌≡◌, ◌++◌, ℕ, List, length, false, true, Option, Some, None, Result, Ok, Err, inl, inr, refl, sym, ap, ap₂, ◌∙◌, subst}
+use Rattle.std.proofs.Common.{◌≡◌, ℕ, List, length, false, true, Option, Some, None, Result, Ok, Err, inl, inr, refl, sym, ap, ap₂, ◌∙◌, subst}
 use Rattle.std.specs.Prelude.{IfSome}
-use Rattle.std.specs.Io.KnownBytes.{Appends, Keeps}
+use Rattle.std.specs.Io.KnownBytes.{Appends}
 use Rattle.std.proofs.KnownBytes.{Keeps-refl}
-use Rattle.abstract_port.specs.Answers.{port_after}
 use Rattle.abstract_port.specs.Settled.{IsSettling}
 use Rattle.capture.specs.CaptureReader.{Left, Next, answer}
 use Rattle.capture.specs.FileHeader.{format_of}
@@ -34,7 +33,7 @@ use Rattle.drawing.specs.Course.{seen_after}
 use Rattle.drawing.specs.Followed.{BandsOfRequests, BandsTo}
 use Rattle.drawing.specs.OfCapture.{BandsOfCapture, BandsRead, picture_said, refused}
 use Rattle.drawing.specs.PictureEnd.{picture_by, picture_to}
-use Rattle.drawing.specs.Words.{AbstractPort, BadLine, BandsOfBoth, CapFault, Command, Course, DrawsAll, DrawsBoth, DrawsRecords, End, EndsSo, Entry, Fault, ForSomeBands, IsCapturePicture, IsDrawnBeside, IsDrawnWhole, IsReader, IsSoundPort, Place, ReadsAs, ReplayInput, Request, Stop, TcFault, Timed, WhereWhole, asked_to, before_end, came_from, end_fault, first_place, is_too_late, lines_after, lines_by, lines_left, lines_past, merged, picture_of_capture, picture_read, port_on, replay_telling, requests_of, run_end, settled, timed_from}
+use Rattle.drawing.specs.Words.{AbstractPort, BadLine, BandsOfBoth, CapFault, Command, Course, DrawsAll, End, EndsSo, Entry, Fault, ForSomeBands, IsCapturePicture, IsDrawnBeside, IsDrawnWhole, IsReader, IsSoundPort, Place, ReadsAs, ReplayInput, Request, TcFault, Timed, WhereWhole, asked_to, before_end, came_from, first_place, is_too_late, lines_after, lines_by, lines_left, merged, picture_of_capture, picture_read, port_on, replay_telling, requests_of, run_end, timed_from}
 use Rattle.drawing.specs.declared.options.DrawOptions.{DrawOptions}
 use Rattle.drawing.proofs.EndLaws.{front_of_nothing, map_bands, with_some}
 use Rattle.drawing.proofs.WalkLaws.{bands_drawn, both_drawn, drawn_from}

@@ -1,4 +1,4 @@
-use Rattle.std.proofs.Common.{List, Ok, Err, Result, false, true, ◌≡◌, sym, ap, ◌∙◌, subst}
+use Rattle.std.proofs.Common.{List, Err, Result, false, true, ◌≡◌, sym, ap, ◌∙◌, subst}
 use Rattle.std.proofs.lemmas.Result.{err_from_is_err_and}
 use Rattle.replay.proofs.ReplayLaws.{comes_new, opened, when_known}
 use Rattle.drawing.specs.Words.{CapFault, End, Entry, IsDrawnBeside, ReadsAs, is_too_late, left}

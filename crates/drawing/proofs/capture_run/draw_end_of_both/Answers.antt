@@ -1,4 +1,4 @@
-use Rattle.std.proofs.Common.{List, ℕ, Option, Some, ap, ap₂, sym, ◌∙◌, subst, rules}
+use Rattle.std.proofs.Common.{List, ℕ, Option, Some, ap, ap₂, ◌∙◌, subst, rules}
 use Rattle.text.specs.Writes.{Writes}
 use Rattle.drawing.specs.Followed.{BandsShown}
 use Rattle.drawing.specs.PictureEnd.{end_text}

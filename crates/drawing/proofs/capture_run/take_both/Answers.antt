@@ -1,4 +1,4 @@
-use Rattle.std.proofs.Common.{Ok, Err, ℕ, Option, Result, sym, ap, ◌∙◌, subst}
+use Rattle.std.proofs.Common.{Err, ℕ, Option, Result, sym, ap, ◌∙◌, subst}
 use Rattle.std.proofs.lemmas.Result.{err_from_is_err_and}
 use Rattle.drawing.specs.Words.{CapFault, DrawsBoth, Stop, kept_requests, place}
 use Rattle.drawing.proofs.CaptureLaws.{lines_drawn}

@@ -1,4 +1,4 @@
-use Rattle.std.proofs.Common.{ℕ, ap, ◌∙◌, ◌≡◌}
+use Rattle.std.proofs.Common.{ℕ, ap, ◌∙◌}
 use Rattle.abstract_port.specs.AbstractPort.{new_port}
 use Rattle.picture.specs.Drawn.{Drawing, new_drawing}
 use Rattle.script.specs.Words.{PortState}

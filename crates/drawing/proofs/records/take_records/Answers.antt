@@ -1,4 +1,4 @@
-use Rattle.std.proofs.Common.{◌+◌, ◌++◌, Ok, Err, Some, ℕ, Option, Result, refl, sym, ap, ◌∙◌, subst}
+use Rattle.std.proofs.Common.{◌+◌, ◌++◌, Ok, Some, ℕ, Option, Result, refl, sym, ap, ◌∙◌, subst}
 use Rattle.replay.proofs.RecordLaws.{asked_now, behind, going, its, over_found, over_whole, taken_next, taken_none}
 use Rattle.drawing.specs.Words.{CapFault, DrawsRecords, Stop, before_end, came_from, entry, left, lines_by, lines_left, place, requests_of}
 use Rattle.drawing.proofs.WalkLaws.{all_drawn, begun, goes_on}
