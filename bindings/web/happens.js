@@ -32,10 +32,20 @@ export function originOf(run) {
   return span ? span.from : run.first;
 }
 
+// The time to show of a run without a frame: two cycles of the first schedule that comes into force, from then on; null where all is shown, since the run
+// goes on under it and little lies before that.
+function cyclesOf(run) {
+  const { change, cycle } = run.changes.find((it, place) => it.cycle !== null && (run.history?.[place]?.inTime ?? true)) ?? {};
+  if (change === undefined || change + 2n * cycle > GREATEST) return null;
+  const end = endOfRun(run);
+  const isNear = change < FAR || change < 10n * (end - change);
+  return end > change && isNear ? null : { from: change, to: change + 2n * cycle };
+}
+
 /** The time to show of a run: null where it shows all from moment 0 on, since little lies before the frames. */
 export function windowOf(run) {
   const span = spanOf(run);
-  if (!span) return null;
+  if (!span) return cyclesOf(run);
   const near = run.changes.map((it) => it.change).filter((it) => it <= span.from && !isFar(it, span));
   const from = near.length ? near[0] : span.from;
   const to = endOfRun(run);

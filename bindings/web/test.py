@@ -667,6 +667,13 @@ def try_dates(page):
     """A base time of our days: time counts from the frames, the verdict says that no schedule is in force, and the clock is set there."""
     ticks = "return [...document.querySelectorAll('#canvas text.m')].map((it) => it.textContent)"
     page.choose("first.script")
+    for base, change in ((0, 250_000_000), (TODAY // 1000, TODAY)):
+        alone = f"tc qdisc replace dev eth0 root taprio num_tc 2 map 0 1 base-time {base} sched-entry S 02 50000 sched-entry S 01 200000\n"
+        page.set("text", alone)
+        page.run()
+        page.picture(f"two cycles of a schedule alone, base time {base}", alone.encode(), "--from", str(change), "--to", str(change + 500_000_000))
+        page.same("counted from its change", page.do(ticks)[0], "0")
+    page.choose("first.script")
     page.type(DATED)
     page.same("the marks of time", page.do(f"{ticks}.slice(0, 2)"), ["0", "10 us"])
     wanted = "2 frames sent, longest wait 0 (frame 1, class 0). No schedule is in force yet: it comes into force at 1764403200 s, 2025-11-29 08:00:00 if counted from 1970, and the run ends at 40 us. Until then every gate is open."

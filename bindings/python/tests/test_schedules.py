@@ -171,6 +171,26 @@ tc qdisc add dev eth1 root taprio sched-entry S ff 0001000 flags 0x2 max-sdu 5 0
                 self.assertEqual(fault.name, name)
                 self.assertTrue(str(fault).endswith(f"({name})"))
 
+    def test_pasted_lines(self):
+        """What stands there of a shell is a fault that says how to go on."""
+        plain_line = "tc qdisc replace dev eth0 root taprio num_tc 1 map 0 sched-entry S 01 300000"
+        before = "; leave out what stands before tc, such as a prompt, sudo or a path"
+        for front in ("sudo ", "$ ", "root@box:~# ", "501 ", "/sbin/", "sudo -E /sbin/"):
+            with self.subTest(front):
+                found = repr((front + plain_line).split()[0]) + before
+                self.assertEqual(self.fault(read, front + plain_line).found, found)
+                self.assertEqual(self.fault(read_tc, front + plain_line, expected="a line that begins with tc").found, found)
+        self.assertIn("leave out the prompt", self.fault(read, "# " + plain_line).found)
+        self.assertEqual(self.fault(read, "# a comment about tc").found, "nothing")
+        for line, said in (
+            (plain_line + ";", "'300000;'; leave out the semicolon"),
+            (plain_line.replace("300000", "'300000'"), "\"'300000'\"; leave out the quotation marks"),
+            (plain_line.replace("num_tc", "\\ \n num_tc"), "'\\\\'; nothing may stand behind the backslash that joins the next line"),
+            (plain_line.replace("num_tc", "\\\n> num_tc"), "'>'; leave out the prompt of the shell"),
+        ):
+            with self.subTest(line):
+                self.assertEqual(self.fault(read, line).found, said)
+
     @support.wants_program
     def test_random_ends_of_lines(self):
         """Backslashes, carriage returns, comments and empty lines: the program sees the same lines, with the same numbers."""

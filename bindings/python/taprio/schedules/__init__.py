@@ -21,12 +21,13 @@ or raises `BadSchedule` where the gates would do something else without it.
 
 from __future__ import annotations
 
+import re
 from collections.abc import Callable, Iterable
 from typing import Literal, Union
 
 from ..faults import BadSchedule
 
-from .model import Configured, Entry, Ranges, Schedule, Side
+from .model import Configured, Entry, Ranges, Schedule, Side, before_tc
 from .qcw import RECOMMENDED, read_qcw, write_qcw
 from .show import read_show, read_show_json, write_show, write_show_json
 from .tc import read_tc, write_tc
@@ -84,8 +85,10 @@ def form_of(text: str) -> Form:
         if first.startswith("<"):
             found = f"{first[:20]!r}, which is XML: ask for JSON (application/yang-data+json)"
             raise BadSchedule(f"line {number}", "tc lines, the output of tc qdisc show, or JSON", found)
-        raise BadSchedule(f"line {number}", "tc lines, the output of tc qdisc show, or JSON", repr(first[:40]))
-    raise BadSchedule("line 1", "tc lines, the output of tc qdisc show, or JSON", "nothing")
+        raise BadSchedule(f"line {number}", "tc lines, the output of tc qdisc show, or JSON", repr(first[:40]) + before_tc(words))
+    pasted = re.search(r"(?m)^[ \t]*# *(?:sudo +)?\S*tc +qdisc\b", text)
+    found = "comments alone; one begins with # tc: leave out the prompt if that is one" if pasted else "nothing"
+    raise BadSchedule("line 1", "tc lines, the output of tc qdisc show, or JSON", found)
 
 
 def read(text: str | bytes, form: Form | None = None, device: str | None = None) -> list[Configured]:

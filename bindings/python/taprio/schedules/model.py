@@ -241,6 +241,26 @@ def device_word(device: str | None, otherwise: str = "eth0") -> str:
     return re.sub(r"\s", "_", device) if device else otherwise
 
 
+def before_tc(words: list[str]) -> str:
+    """How to go on with a line that is perhaps pasted from a shell, where something stands before its `tc`; else nothing."""
+    is_command = [(word == "tc" or word.endswith("/tc")) and behind == "qdisc" for word, behind in zip(words, words[1:])]
+    if words[0] == "tc" or not any(is_command):
+        return ""
+    return "; leave out what stands before tc, such as a prompt, sudo or a path"
+
+
+_OF_SHELLS = {"\\": "; nothing may stand behind the backslash that joins the next line", ">": "; leave out the prompt of the shell"}
+
+
+def of_shell(word: str) -> str:
+    """How to go on with a word that has what a shell alone reads; else nothing."""
+    if word in _OF_SHELLS:
+        return _OF_SHELLS[word]
+    if word.endswith(";"):
+        return "; leave out the semicolon"
+    return "; leave out the quotation marks" if word[0] in "\"'" else ""
+
+
 def logical_lines(text: str) -> Iterator[tuple[int, list[str]]]:
     """The words of each line that has some, with its number, from 1. A backslash before the end of a line takes the next one into it."""
     first, joined = 1, ""

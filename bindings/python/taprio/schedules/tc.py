@@ -8,7 +8,7 @@ from collections.abc import Iterable
 from typing import NoReturn
 
 from ..faults import BadSchedule, LeftOut
-from .model import CLASSES, CLOCKS, MOST_ENTRIES, PRIORITIES, U8, U16, U32, U64, Configured, Parts, Schedule, device_word, logical_lines
+from .model import CLASSES, CLOCKS, MOST_ENTRIES, PRIORITIES, U8, U16, U32, U64, Configured, Parts, Schedule, before_tc, device_word, logical_lines, of_shell
 
 __all__ = ["line", "read_tc", "write_tc"]
 
@@ -36,7 +36,7 @@ class _Words:
     def fault(self, name: str, expected: str, at: int | None = None) -> NoReturn:
         """Says what is wrong, by the name that the port has for it."""
         place = self.place if at is None else f"{self.place}, word {at}"
-        found = "the end of the line" if at is None or at >= len(self.words) else repr(self.words[at])
+        found = "the end of the line" if at is None or at >= len(self.words) else repr(self.words[at]) + of_shell(self.words[at])
         raise BadSchedule(place, expected, found, name)
 
     def wrong(self, name: str, expected: str, found: str) -> NoReturn:
@@ -222,7 +222,7 @@ def read_tc(text: str, device: str | None = None) -> list[Configured]:
         if words[0].startswith("#"):
             continue
         if words[0] != "tc":
-            raise BadSchedule(f"line {number}", "a line that begins with tc", repr(words[0]), "UnknownLine")
+            raise BadSchedule(f"line {number}", "a line that begins with tc", repr(words[0]) + before_tc(words), "UnknownLine")
         with parts.of(words[words.index("dev") + 1] if "dev" in words[:-1] else None):
             of_device, schedule = _command(_Words(number, words))
             if schedule is None:
