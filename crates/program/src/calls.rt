@@ -170,9 +170,7 @@ fn answer_job<F: Files, B: Allocator, R: Read, W: Write + Drop, E: Errors, H: Wa
         JobName::Bounds => bounds_given(files, alloc, matches, reader, answers, errors, watch),
         JobName::Paths => paths_given(files, alloc, matches, reader, answers, errors, watch),
         JobName::Plan => plan_for(files, alloc, matches, answers, errors, watch),
-        JobName::Draw => draw_given(
-            files, alloc, matches, reader, answers, errors, watch, noted,
-        ),
+        JobName::Draw => draw_given(files, alloc, matches, reader, answers, errors, watch, noted),
         JobName::Frames => frames_given(
             files, alloc, matches, reader, answers, errors, watch, noted,
         ),
