@@ -26,7 +26,7 @@ returns-in-Some g c =
       job = c.in-Some.name;
       found = found_of c.in-Some.given.now;
       named = named matches words c.in-Some.name c.in-Some.given.now has c.in-Some.ensures.some;
-      ending = c.answer_watched.ensures;
+      ending = c.answer_asked.ensures;
     })
 
 pub returns : goal.returns
