@@ -53,7 +53,7 @@ ONE = section() + interface() + enhanced("<", 5, FRAMES[0])
 FAULTY = [
     ("BadByteOrder", 3, ONE, section(magic=0)),
     ("BadLength", 3, ONE, struct.pack("<II", 5, 8) + bytes(8)),
-    ("BadLength", 3, ONE, struct.pack("<II", 5, 14) + bytes(8)),
+    ("BadLength", 3, ONE, block("<", 5, bytes(2))),
     ("BadLength", 3, ONE, block("<", 6, bytes(16))),
     ("BadLength", 3, ONE, block("<", 6, bytes(20))[:-4] + bytes(4)),
     ("BadLength", 3, ONE, block("<", 5, bytes(20))[:-4] + bytes(4)),
@@ -124,6 +124,12 @@ class Captures(unittest.TestCase):
         self.assertEqual(self.read(pcapng() + pcapng(">", 6)), self.read(pcapng()) + self.read(pcapng(">", 6))[24:])
         if support.PROGRAM:
             taprio.Program(support.PROGRAM).replay("", self.read(pcapng()), until=2_000_000_000 * 10**12)
+
+    def test_what_counts_for_nothing(self):
+        """Options behind the end of them, and the count of drops behind the interface of a packet of old."""
+        options = option("<", 0, b"") + option("<", 9, b"\6\0")
+        old = block("<", 2, struct.pack("<HHIIII", 0, 7, 0, 5, 46, 1046) + FRAMES[0] + bytes(2))
+        self.assertEqual(self.read(section() + interface(options=options) + old), classic([5000]))
 
     def test_packets_without_a_moment(self):
         """A simple packet is of the first interface, and is captured up to its snap length, where that isn't 0."""
