@@ -29,8 +29,7 @@ def tabled(program, capture, *words):
 
 
 def case_a_pcapng_answers_as_the_classic_capture_that_it_comes_to(program):
-    """The rows that the Python package and the page are tried on, in both ways to ask; what they don't read, but for two kinds of packets,
-    is a fault of a block."""
+    """The rows that the Python package and the page are tried on, in both ways to ask."""
     with open(CASES, "rb") as file:
         cases = tomllib.load(file)["case"]
     for case in cases:
@@ -44,8 +43,8 @@ def case_a_pcapng_answers_as_the_classic_capture_that_it_comes_to(program):
             assert replayed(program, classic, "--format", "auto") == replayed(program, classic), case["name"]
             told = replayed(program, octets, "--format", "auto", "--explain")[3]
             assert (b"moments rounded down to whole nanoseconds: " in told) == case.get("rounded", False), (case["name"], told)
-        elif "of a kind that is not read" not in case["fault"]:
-            assert auto[0] == 3 and auto[3].startswith(b"taprio_port: capture block "), (case["name"], auto)
+        else:
+            assert auto[0] == 3 and auto[3] == f"taprio_port: capture {case['block']}\n".encode(), (case["name"], auto)
 
 
 @functools.cache

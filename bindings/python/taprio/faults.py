@@ -133,7 +133,23 @@ class BadAnswer(TaprioError, ValueError):
 
 
 class BadCapture(TaprioError, ValueError):
-    """A file is no capture that can be replayed. The text says what it is, and what to do."""
+    """A file is no capture that can be replayed. The text says what it is, and what to do, or which block of a pcapng can't be read.
+
+    `block` is the number of that block and `place` that of its first octet, both from 0, `name` the fault's name, such as "ShortBlock" or
+    "BadLink 113" (docs/errors.md), and `output` the classic pcap of the packets before it. Else they are None.
+    """
+
+    def __init__(
+        self, text: str, block: int | None = None, place: int | None = None, name: str | None = None, output: bytes | None = None
+    ) -> None:
+        super().__init__(text)
+        self.block = block
+        self.place = place
+        self.name = name
+        self.output = output
+
+    def __reduce__(self) -> tuple[Any, ...]:
+        return type(self), (self.args[0], self.block, self.place, self.name, self.output), self.__dict__
 
 
 class LeftOut(UserWarning):

@@ -14,6 +14,8 @@ FAULTS = [
     taprio.BadInput("network line 2: SecondLink (line 1)", "network", 2, None, "SecondLink", b""),
     taprio.BadInput("capture record 0: ShortRecord", "capture", None, 0, "ShortRecord", taprio.Replay(b"a", b"b")),
     taprio.BadSchedule("line 3", "an interval in nanoseconds", "300us"),
+    taprio.BadCapture("a.pcap is compressed with gzip: gunzip it first"),
+    taprio.BadCapture("a.pcapng: capture block 2 at octet 48: BadLink 113", 2, 48, "BadLink 113", b"header"),
     taprio.LibraryMissing("the library can't be loaded"),
     taprio.TaprioError("write failed"),
 ]

@@ -65,7 +65,7 @@ class Package(unittest.TestCase):
         for name in ("BadInput", "BadValue", "Replay", "TaprioError", "check", "draw", "replay", "run", "streams"):
             self.assertIn(name, taprio.__all__)
             self.assertIn(name, taprio.library.__all__)
-        for module in (taprio, taprio.library, taprio.schedules, taprio.results, taprio.faults, taprio.program, taprio.traffic):
+        for module in (taprio, taprio.library, taprio.schedules, taprio.results, taprio.faults, taprio.pcapng, taprio.program, taprio.traffic):
             for name in module.__all__:
                 found = getattr(module, name)
                 self.assertTrue(not (inspect.isclass(found) or inspect.isfunction(found)) or found.__doc__, name)
@@ -73,7 +73,7 @@ class Package(unittest.TestCase):
 
     def test_what_is_loaded(self):
         """Loading the package loads neither a shared object nor what may not be installed."""
-        program = "import sys, taprio; print([name for name in ('matplotlib', 'scapy', 'dpkt', 'pandas') if name in sys.modules], taprio.library._loaded.cache_info().currsize)"
+        program = "import sys, taprio; print([name for name in ('matplotlib', 'pandas') if name in sys.modules], taprio.library._loaded.cache_info().currsize)"
         given = os.environ | {"PYTHONPATH": str(PYTHON)}
         ran = subprocess.run([sys.executable, "-c", program], check=True, capture_output=True, text=True, env=given, timeout=60)
         self.assertEqual(ran.stdout, "[] 0\n")
