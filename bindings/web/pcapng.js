@@ -1,83 +1,124 @@
-// Captures in pcapng (draft-ietf-opsawg-pcapng) as the classic pcap that a replay reads, by the rules of bindings/python/taprio/captures.py:
-// tests/imports/pcapng.toml has the cases that both are tried on.
+// Captures in pcapng (draft-ietf-opsawg-pcapng) as the classic pcap that a replay reads, by the definitions in crates/pcapng/specs: the rule of
+// the program's --format auto, and of bindings/python/taprio/pcapng.py. tests/imports/pcapng.toml has cases that all three are tried on.
 
-const SECTION = 0x0a0d0d0a;
+const SECTION = 0x0a0d0d0a; // (it reads the same in both orders)
 const INTERFACE = 1;
-const PACKET = 6; // the enhanced packet block
-const UNREAD = [2, 3]; // the packet block of old, and the simple one, which has no moment
-const LITTLE = 0x1a2b3c4d; // how a section spells its order, where that is little-endian
-const ETHERNET = 1;
+const OBSOLETE = 2;
+const SIMPLE = 3;
+const ENHANCED = 6;
+// The fewest octets of the blocks that are read. Others have 12, and are passed over.
+const FEWEST_OCTETS = { [SECTION]: 28, [INTERFACE]: 20, [OBSOLETE]: 32, [SIMPLE]: 16, [ENHANCED]: 32 };
+const MOST_BLOCK_OCTETS = 524288;
+const MOST_RECORD_OCTETS = 262144;
+const MOST_INTERFACES = 256;
+const IS_LITTLE = { 0x1a2b3c4d: false, 0x4d3c2b1a: true }; // how a section spells its order
 const RESOLUTION = 9; // the option that says how many ticks a second has
 const OFFSET = 14; // and the one that says which second moments count from
+const ETHERNET = 1;
 const SECOND = 1_000_000_000n; // nanoseconds
 const MOST_SECONDS = 2n ** 32n;
-const SNAP_LENGTH = 262144;
-const CONVERT = "Make a classic one of it: editcap -F nsecpcap IN OUT";
 
 /** Why a capture can't be read. */
 export class BadCapture extends Error {}
 
-const isSection = (view, at) => view.getUint32(at) === SECTION; // (it reads the same in both orders)
+// The name of a block's fault.
+class BlockFault extends Error {}
 
-// The blocks of a capture: what each is, whether it is little-endian, and where it begins and ends.
-function* blocksIn(view) {
-  let little = true;
-  for (let at = 0; at < view.byteLength; ) {
-    const left = view.byteLength - at;
-    if (left >= 12 && isSection(view, at)) little = view.getUint32(at + 8, true) === LITTLE;
-    const length = left < 12 ? 0 : view.getUint32(at + 4, little);
-    if (length < 12 || length % 4 || length > left) throw new BadCapture("it ends within a block, or is malformed");
-    yield { kind: view.getUint32(at, little), little, at, end: at + length };
-    at += length;
-  }
+function faultIf(isBad, name) {
+  if (isBad) throw new BlockFault(name);
 }
 
-// The link type of an interface, how many ticks a second has, and from which second moments count.
-function interfaceOf(view, { little, at, end }) {
-  const found = { link: view.getUint16(at + 8, little), ticks: 1_000_000n, offset: 0n };
-  for (let place = at + 16; place + 4 <= end - 4; ) {
-    const [code, length] = [view.getUint16(place, little), view.getUint16(place + 2, little)];
-    const value = place + 4;
-    if (code === 0 || value + length > end - 4) break;
-    if (code === RESOLUTION && length >= 1) found.ticks = ticksOf(view.getUint8(value));
-    else if (code === OFFSET && length >= 8) found.offset = view.getBigInt64(value, little);
-    place = value + 4 * Math.ceil(length / 4);
-  }
-  return found;
+// The first block of a view, in a section of this order, or before the first one: what it is, its order, and its octets.
+function blockOf(view, order) {
+  faultIf(view.byteLength < 12, "ShortBlock");
+  const isSection = view.getUint32(0) === SECTION;
+  const little = isSection ? IS_LITTLE[view.getUint32(8)] : order;
+  faultIf(little === undefined, isSection ? "BadByteOrder" : "NotPcapng");
+  const [kind, length] = [view.getUint32(0, little), view.getUint32(4, little)];
+  faultIf(length < (FEWEST_OCTETS[kind] ?? 12) || length % 4, "BadLength");
+  faultIf(kind in FEWEST_OCTETS && length > MOST_BLOCK_OCTETS, "LongRecord");
+  faultIf(view.byteLength < length, "ShortBlock");
+  faultIf(view.getUint32(length - 4, little) !== length, "BadLength");
+  return { kind, little, view: new DataView(view.buffer, view.byteOffset, length) };
 }
 
 // A power of 2 where the first bit is set, and else of 10.
 const ticksOf = (octet) => (octet & 128 ? 2n : 10n) ** BigInt(octet & 127);
 
-// A packet: its moment in nanoseconds, rounded down, its length on the wire, and where its octets are.
-function packetOf(view, { little, at, end }, interfaces) {
-  const number = (place) => view.getUint32(at + place, little);
-  const its = at + 32 <= end ? interfaces[number(8)] : undefined;
-  const captured = its ? number(20) : 0;
-  if (!its || at + 28 + captured > end - 4) throw new BadCapture("it ends within a block, or is malformed");
-  if (its.link !== ETHERNET) throw new BadCapture(`it has frames of another kind than Ethernet (link type ${its.link})`);
-  const ticks = (BigInt(number(12)) << 32n) + BigInt(number(16));
-  const moment = (ticks * SECOND) / its.ticks + its.offset * SECOND;
-  return { moment, isRounded: (ticks * SECOND) % its.ticks !== 0n, original: number(24), begin: at + 28, end: at + 28 + captured };
-}
-
-function packetsOf(view) {
-  let interfaces = [];
-  const found = [];
-  for (const block of blocksIn(view)) {
-    if (block.kind === SECTION) interfaces = [];
-    else if (block.kind === INTERFACE) interfaces.push(interfaceOf(view, block));
-    else if (block.kind === PACKET) found.push(packetOf(view, block, interfaces));
-    else if (UNREAD.includes(block.kind)) throw new BadCapture(`it has packets of a kind that is not read. ${CONVERT}`);
+// The link type of an interface, its snap length, how many ticks a second has, and from which second moments count. Of two options of a kind
+// the last one counts.
+function interfaceOf({ view, little }) {
+  const found = { link: view.getUint16(8, little), snap: view.getUint32(12, little), ticks: 1_000_000n, offset: 0n };
+  const end = view.byteLength - 4;
+  for (let at = 16; at < end; ) {
+    const [code, length] = [view.getUint16(at, little), view.getUint16(at + 2, little)];
+    if (code === 0) break;
+    faultIf(at + 4 + length > end, "BadOption");
+    faultIf((code === RESOLUTION && length !== 1) || (code === OFFSET && length !== 8), "BadOption");
+    if (code === RESOLUTION) found.ticks = ticksOf(view.getUint8(at + 4));
+    else if (code === OFFSET) found.offset = view.getBigInt64(at + 4, little);
+    at += 4 + 4 * Math.ceil(length / 4);
   }
   return found;
 }
 
-// Seconds and the nanoseconds beyond them, of a moment that a classic pcap can tell.
-function secondsOf(moment) {
-  const seconds = moment >= 0n ? moment / SECOND : -1n;
-  if (seconds < 0n || seconds >= MOST_SECONDS) throw new BadCapture(`a moment of ${moment} ns is beyond those of a classic pcap`);
-  return [Number(seconds), Number(moment % SECOND)];
+// A packet with so many captured ones of the octets from here to the end of its block.
+function packetOf(view, begin, { moment, isRounded, captured, original }) {
+  faultIf(captured > MOST_RECORD_OCTETS, "LongRecord");
+  faultIf(captured > view.byteLength - 4 - begin, "BadCaptured");
+  faultIf(moment < 0n || moment >= MOST_SECONDS * SECOND, "BadMoment");
+  return { moment, isRounded, original, octets: new Uint8Array(view.buffer, view.byteOffset + begin, captured) };
+}
+
+// A packet with a time stamp: its moment is rounded down to whole nanoseconds.
+function stampedPacket({ ticks, offset }, { view, little }) {
+  const number = (at) => view.getUint32(at, little);
+  const scaled = ((BigInt(number(12)) << 32n) + BigInt(number(16))) * SECOND;
+  const moment = scaled / ticks + offset * SECOND;
+  return packetOf(view, 28, { moment, isRounded: scaled % ticks !== 0n, captured: number(20), original: number(24) });
+}
+
+// A simple packet: it has no time stamp, and doesn't say how much of it was captured.
+function simplePacket({ snap }, { view, little }) {
+  const original = view.getUint32(8, little);
+  return packetOf(view, 12, { moment: 0n, isRounded: false, captured: Math.min(original, snap || original), original });
+}
+
+// Takes a block into its section, and gives its packet, or nothing where it has none.
+function taken(section, block) {
+  const { kind, little, view } = block;
+  const ofInterface = (number, packet) => {
+    const its = section.interfaces[number];
+    faultIf(!its, "NoInterface");
+    faultIf(its.link !== ETHERNET, `BadLink ${its.link}`);
+    return packet(its, block);
+  };
+  if (kind === SECTION) {
+    faultIf(view.getUint16(12, little) !== 1, "BadVersion");
+    Object.assign(section, { order: little, interfaces: [] });
+  } else if (kind === INTERFACE) {
+    faultIf(section.interfaces.length >= MOST_INTERFACES, "TooManyInterfaces");
+    section.interfaces.push(interfaceOf(block));
+  } else if (kind === SIMPLE) return ofInterface(0, simplePacket);
+  else if (kind === OBSOLETE) return ofInterface(view.getUint16(8, little), stampedPacket);
+  else if (kind === ENHANCED) return ofInterface(view.getUint32(8, little), stampedPacket);
+  return null;
+}
+
+function packetsOf(octets) {
+  const section = { order: undefined, interfaces: [] };
+  const found = [];
+  for (let [number, at] = [0, 0]; at < octets.byteLength; number += 1) {
+    try {
+      const block = blockOf(new DataView(octets.buffer, octets.byteOffset + at, octets.byteLength - at), section.order);
+      const packet = taken(section, block);
+      if (packet) found.push(packet);
+      at += block.view.byteLength;
+    } catch (error) {
+      throw error instanceof BlockFault ? new BadCapture(`capture block ${number} at octet ${at}: ${error.message}`) : error;
+    }
+  }
+  return found;
 }
 
 /**
@@ -85,19 +126,19 @@ function secondsOf(moment) {
  *
  * @param {Uint8Array} octets
  * @returns {{octets: Uint8Array, packets: number, isRounded: boolean}} whether moments were rounded down to whole nanoseconds
- * @throws {BadCapture} where it can't be read
+ * @throws {BadCapture} where it can't be read: which block, and the name of its fault, as the program says it
  */
 export function classicOf(octets) {
-  const packets = packetsOf(new DataView(octets.buffer, octets.byteOffset, octets.byteLength));
-  const made = new Uint8Array(packets.reduce((sum, { begin, end }) => sum + 16 + end - begin, 24));
+  const packets = packetsOf(octets);
+  const made = new Uint8Array(packets.reduce((sum, it) => sum + 16 + it.octets.length, 24));
   const view = new DataView(made.buffer);
   const put = (at, ...values) => values.forEach((it, place) => view.setUint32(at + 4 * place, it, true));
-  put(0, 0xa1b23c4d, 0x00040002, 0, 0, SNAP_LENGTH, ETHERNET);
+  put(0, 0xa1b23c4d, 0x00040002, 0, 0, MOST_RECORD_OCTETS, ETHERNET);
   let at = 24;
-  for (const { moment, original, begin, end } of packets) {
-    put(at, ...secondsOf(moment), end - begin, original);
-    made.set(octets.subarray(begin, end), at + 16);
-    at += 16 + end - begin;
+  for (const { moment, original, octets: its } of packets) {
+    put(at, Number(moment / SECOND), Number(moment % SECOND), its.length, original);
+    made.set(its, at + 16);
+    at += 16 + its.length;
   }
   return { octets: made, packets: packets.length, isRounded: packets.some((it) => it.isRounded) };
 }
