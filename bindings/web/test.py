@@ -1939,6 +1939,8 @@ def try_pcapng(page):
             page.settle()
         else:
             give(page, "my.pcapng", octets)
+        wait_for(page.browser, "return document.getElementById('read-as').textContent !== ''")
+        page.settle()
         said = page.text("read-as")
         if "block" in case:
             page.same(f"{name}: fault", said, f"This is a capture in pcapng, and can't be read: capture {case['block']}. What stood here stays.")
