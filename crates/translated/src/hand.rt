@@ -8,7 +8,7 @@ use std::io;
 use std::io::Read;
 
 /// How many octets are read at once.
-const CHUNK: usize = 16_384;
+const CHUNK: usize = 65_536;
 
 /// Octets that were read and not yet taken: `octets[start..end]`. They lie in one piece. What stands behind them is room
 /// for more, which is filled once, when it is taken.
@@ -86,7 +86,9 @@ impl<A: Allocator> Hand<A> {
         ensures octets { Keeps (prepend_known (held self.old) (R.remaining source.old))
             (prepend_known (held self.new) (R.remaining source.new)) }
         ensures ended { IfOk result (λ count. count ≡ 0 → IsAtEnd (R.remaining source.new)) }
-        ensures more { IfOk result (λ count. count ≡ 0 → held self.new ≡ held self.old) }
+        ensures none { IfOk result (λ count. count ≡ 0 → held self.new ≡ held self.old) }
+        ensures more { IfOk result (λ count.
+            length (held self.new) ≡ length (held self.old) + count) }
     {
         self.pull();
         self.make_room()?;
