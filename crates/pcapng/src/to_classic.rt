@@ -27,7 +27,7 @@ const CLASSIC_HEADER: [u8; 24] = [
 ];
 
 /// As many octets put are enough at a time.
-const ENOUGH: usize = 16_384;
+const ENOUGH: usize = 65_536;
 
 /// Turns the octets of a capture in pcapng into those of a classic one, little-endian and with nanoseconds, as
 /// `capture::CaptureWriter` spells it. It keeps the note of what it met, so lend it to a reader, and ask it afterwards.
