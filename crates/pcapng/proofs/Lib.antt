@@ -3,6 +3,7 @@ pub mod BlockLaws
 pub mod CutLaws
 pub mod FcsLaws
 pub mod OptionLaws
+pub mod PlainLaws
 pub mod ReadingLaws
 pub mod SpelledLaws
 pub mod StepLaws

@@ -4,6 +4,7 @@ pub mod Classic
 pub mod Found
 pub mod Interfaces
 pub mod Packets
+pub mod Plain
 pub mod Reader
 pub mod Spelled
 pub mod Steps

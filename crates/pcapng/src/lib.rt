@@ -11,6 +11,7 @@ mod interface;
 pub mod laws;
 mod number;
 mod packet;
+mod plain;
 mod stage;
 mod to_classic;
 mod without_fcs;

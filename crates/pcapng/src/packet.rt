@@ -11,13 +11,13 @@ use crate::number::{read_u16, read_u32};
 use capture::{Endian, MAX_RECORD_OCTETS};
 
 /// The link type of Ethernet.
-const ETHERNET: u16 = 1;
+pub(crate) const ETHERNET: u16 = 1;
 
 /// The nanoseconds of a second.
 const SECOND: u128 = 1_000_000_000;
 
 /// The first moment that a classic capture can't say, in nanoseconds: its seconds have 32 bits.
-const END: u128 = 4_294_967_296_000_000_000;
+pub(crate) const END: u128 = 4_294_967_296_000_000_000;
 
 /// What a packet's block says of it.
 #[derive(Clone, Copy)]

@@ -8,12 +8,14 @@ ghost use Rattle.pcapng.specs.Steps.{GoesOn, GoesFrom, IsOver};
 ghost use Rattle.pcapng.specs.Classic.{step, past, fails, content_taken, record_of, with_rounded};
 ghost use Rattle.pcapng.specs.Packets.{IsFramed};
 ghost use Rattle.pcapng.specs.Found.{IsFound};
+ghost use Rattle.pcapng.specs.Plain.{plain_found};
 
 use crate::block::{Content, Found, MAX_INTERFACES, find, is_short};
 use crate::fault::{BlockFault, BlockKind, Note};
 use crate::interface::Interface;
 use crate::number::read_u32;
 use crate::packet::Packet;
+use crate::plain::{is_plain, plain_packet};
 use crate::stage::{Passage, Stage};
 use arrayvec::ArrayVec;
 use byteorder::{ByteOrder, LittleEndian};
@@ -60,6 +62,7 @@ fn record_header(packet: &Packet) -> [u8; 16]
 }
 
 /// Puts a packet as a record. When out of memory, nothing is put.
+#[inline(always)]
 fn put_packet<A: Allocator>(
     packet: &Packet,
     octets: &[u8],
@@ -191,8 +194,30 @@ impl PcapngToClassic {
         Ok(found.length as usize)
     }
 
-    /// Takes the first block, or its front where it is passed over.
-    fn take_block<A: Allocator>(
+    /// Takes the first block, which is a plain packet.
+    #[inline(always)]
+    fn take_plain<A: Allocator>(
+        &mut self,
+        octets: &[u8],
+        out: &mut Vec<u8, A>,
+    ) -> Result<usize, AllocError>
+        requires { IsFound (length self.old.interfaces.items) (length octets.now)
+            (plain_found octets.now) }
+        ensures taken { let f = plain_found octets.now in IfOk result (λ count.
+            Takes (content_taken (reading self.old) octets.now f.endian f.length f.content)
+            count out.old.items out.new.items self.old self.new) }
+        ensures failed { OnErr result (self.new ≡ self.old) }
+        ensures nothing { OnErr result (out.new.items ≡ out.old.items) }
+    {
+        let size = read_u32(Endian::Little, &octets[4..]);
+        put_packet(&plain_packet(octets), octets, out)?;
+        self.pass(size);
+        Ok(size as usize)
+    }
+
+    /// Takes the first block, whatever it is, or its front where it is passed over.
+    #[inline(never)]
+    fn take_any_block<A: Allocator>(
         &mut self,
         octets: &[u8],
         is_last: bool,
@@ -220,6 +245,31 @@ impl PcapngToClassic {
         }
     }
 
+    /// The same, by a short way where the block is a plain packet, as most are.
+    #[inline(always)]
+    fn take_block<A: Allocator>(
+        &mut self,
+        octets: &[u8],
+        is_last: bool,
+        out: &mut Vec<u8, A>,
+    ) -> Result<usize, AllocError>
+        requires blocks { self.old.stage ≡ Stage.Blocks }
+        requires some { 1 ≤ length octets.now }
+        ensures count { IfOk result (λ count. count ≤ length octets.now) }
+        ensures goes_on { IfOk result (λ count. GoesOn step (reading self.old) (reading self.new)
+            octets.now is_last count out.old.items out.new.items) }
+        ensures header { self.new.has_header ≡ self.old.has_header }
+        ensures done { IfOk result (λ count. IsOver step (reading self.new) octets.now is_last
+            count out.old.items out.new.items) }
+        ensures failed { OnErr result (self.new ≡ self.old) }
+        ensures nothing { OnErr result (out.new.items ≡ out.old.items) }
+    {
+        if is_plain(self.section, self.interfaces.as_slice(), octets) {
+            return self.take_plain(octets, out);
+        }
+        self.take_any_block(octets, is_last, out)
+    }
+
     /// Takes the end between blocks. There is to be one block at least.
     fn take_end<A: Allocator>(
         &mut self,
@@ -243,6 +293,7 @@ impl PcapngToClassic {
     }
 
     /// Takes the first block, or the end.
+    #[inline(always)]
     fn take_next<A: Allocator>(
         &mut self,
         octets: &[u8],
@@ -303,6 +354,7 @@ impl PcapngToClassic {
     }
 
     /// Takes what comes first, as far as it is in hand.
+    #[inline(always)]
     fn advance<A: Allocator>(
         &mut self,
         octets: &[u8],
