@@ -12,4 +12,5 @@ pub mod SeenLaws
 pub mod Sends
 pub mod SeparatedLaws
 pub mod StartLaws
+pub mod TakerLaws
 pub mod TellLaws

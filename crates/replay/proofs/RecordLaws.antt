@@ -43,7 +43,7 @@ record-next format number octets [] (Broken f) are e = absurd (let both = sym ar
 record-next format number octets (x ∷ es) last are e = (es, ap (λ (y : Entry). y ∷ es) are.1, are.2)
 
 -- a read failed, or another fault ends the records
-found_by : (number : ℕ) (f : CapFault) → ((f ≡ Read) × (found number f ≡ Err Stops.Read)) ⊎ ((f ≢ Read) × (found number f ≡ Ok (Some (number, f))))
+pub found_by : (number : ℕ) (f : CapFault) → ((f ≡ Read) × (found number f ≡ Err Stops.Read)) ⊎ ((f ≢ Read) × (found number f ≡ Ok (Some (number, f))))
 found_by number Read = inl (refl, refl)
 found_by number ShortHeader = inr (λ e. cc, refl)
 found_by number BadMagic = inr (λ e. cc, refl)
@@ -153,10 +153,10 @@ module _ {P : List Request → Type 0} {C : List Entry → Type 0} {entries : Li
     asked = subst (λ (xs : List Entry). P (before_end lines (came_from latest number xs))) none t.asked;
   }
 
-  whole_end : (last : End) → t.rest ≡ [] → last ≡ Whole → AreOver P entries last all lines None
+  pub whole_end : (last : End) → t.rest ≡ [] → last ≡ Whole → AreOver P entries last all lines None
   whole_end last none is = are_over last None none (sym (ap (λ (e : End). ending entries e) is))
 
-  broken_end : (last : End) (f : CapFault) → t.rest ≡ [] → last ≡ Broken f → AreOver P entries last all lines (Some (number, f))
+  pub broken_end : (last : End) (f : CapFault) → t.rest ≡ [] → last ≡ Broken f → AreOver P entries last all lines (Some (number, f))
   broken_end last f none is =
       let counted = ap (λ (xs : List Entry). length xs) (t.split ∙ ap (λ (xs : List Entry). t.front ++ xs) none ∙ append-nil t.front) ∙ t.count in
       are_over last (Some (number, f)) none (sym (ap (λ (e : End). ending entries e) is ∙ ap (λ (k : ℕ). Some (k, f)) counted))
@@ -175,13 +175,13 @@ module _ {P : List Request → Type 0} {C : List Entry → Type 0} {entries : Li
     abbrev behind_of : List Request
     behind_of = before_end (lines_past m lines) (came_from m (number + 1) next.0)
 
-    asked_of : P (requests_of (lines_by m lines) ++ (its_of ++ behind_of))
+    pub asked_of : P (requests_of (lines_by m lines) ++ (its_of ++ behind_of))
     asked_of = subst P (ap (λ (cs : List Came). before_end lines cs) here) t.asked
 
-    record_of : kept_in entries number ≡ kept e.original e.octets
+    pub record_of : kept_in entries number ≡ kept e.original e.octets
     record_of = kept-at entries t.front next.0 e number (t.split ∙ ap (λ (xs : List Entry). t.front ++ xs) next.1) t.count
 
-    next_of : {Q : List Request → Type 0} {lines' : List Timed} → lines' ≡ lines_past m lines → Q behind_of → TakenOf Q D entries m (number + 1) all lines'
+    pub next_of : {Q : List Request → Type 0} {lines' : List Timed} → lines' ≡ lines_past m lines → Q behind_of → TakenOf Q D entries m (number + 1) all lines'
     next_of {Q} past q = record {
       front = t.front ++ e ∷ [];
       rest = next.0;

@@ -16,6 +16,7 @@ pub mod Separated
 pub mod Shifts
 pub mod Sources
 pub mod Stamps
+pub mod Taker
 pub mod Texts
 pub mod Timing
 pub mod WholeScript

@@ -4,6 +4,7 @@
 //! and `answer_replay` cite it.
 #![tactic(auto)]
 
+mod both_walk;
 mod cursor;
 mod end_lines;
 mod faults;
@@ -19,9 +20,11 @@ mod script_reader;
 mod sender;
 mod shifts;
 mod stamps;
+mod taker;
 mod texts;
 mod timing;
 
+pub use both_walk::walk_both;
 pub use cursor::Cursor;
 pub use faults::{ReplayFault, ReplayInput, Stop};
 pub use kept_script::{KeptLine, KeptScript};
@@ -32,5 +35,6 @@ pub use replay_run::{ended_by, is_too_late, open_capture, replay, replay_timed, 
 pub use script_reader::read_script;
 pub use shifts::Shift;
 pub use stamps::Stamp;
+pub use taker::Taker;
 pub use texts::say_unopened;
 pub use timing::{BadTiming, Timing, say_timing, timing_given};
