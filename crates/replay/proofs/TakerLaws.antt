@@ -11,7 +11,7 @@ use Rattle.replay.specs.declared.faults.Stop.TheVariants as Stops
 use Rattle.replay.specs.declared.kept_script.KeptScript.{KeptScript}
 use Rattle.replay.proofs.LineLaws.{all_lines}
 use Rattle.replay.proofs.RecordLaws.{AreOver, TakenMoved, TakenOf, asked, asked_of, broken_end, found_by, moved_end, moved_fault, moved_none, moved_record, next_of, record_of, taken_map, whole_end}
-use Rattle.replay.proofs.Sends.{never}
+use Rattle.replay.specs.Sends.{never}
 
 module _ {S W H : Type 0} (took : Taking S W H) (cut : Stopping S W H) where
   -- 1. The laws of a taker

@@ -6,7 +6,7 @@ use Rattle.replay.specs.Taker.{TakesRecords}
 use Rattle.replay.specs.Words.{CapFault, MAX_RECORDS, Stop, entry, left, lines_left}
 use Rattle.replay.proofs.RecordLaws.{answered, going, lent, none_taken}
 use Rattle.replay.proofs.TakerLaws.{has_none, let_out, lines_stop, not_let_out, over, over_shift, over_well, record_stops, stands_next}
-use Rattle.replay.proofs.Sends.{always}
+use Rattle.replay.specs.Sends.{always}
 use Rattle.replay.proofs.both_walk.take_records.Goals as goal
 
 -- what is no moment is none

@@ -2,9 +2,9 @@ use Rattle.std.proofs.Common.{Err, [], ◌∷◌, ap, ◌∙◌}
 use Rattle.std.proofs.lemmas.Result.{err_from_is_err_and}
 use Rattle.abstract_port.specs.declared.Event.TheVariants as Events
 use Rattle.replay.specs.Words.{Asks}
-use Rattle.replay.proofs.Sends.{on_ok_map}
-use Rattle.replay.proofs.RunLaws.{answers_exit, answers_then}
-use Rattle.replay.proofs.records.take_record.Goals as goal
+use Rattle.replay.specs.Sends.{on_ok_map}
+use Rattle.replay.specs.RunLaws.{answers_exit, answers_then}
+use Rattle.replay.proofs.replay_taker.put_record.Goals as goal
 
 pub returns-in_err-put_clock-clause-answers : goal.returns-in_err-put_clock-clause-answers
 returns-in_err-put_clock-clause-answers g c = λ es is k.

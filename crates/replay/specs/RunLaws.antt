@@ -6,8 +6,8 @@ use Rattle.std.proofs.lemmas.Grind.{flat_map-append}
 use Rattle.replay.specs.Words.{AbstractPort, settled, answers_to, port_after, IsSoundPort, Answer, Origin, Request, Asks, NoCommand, Gave, Response, events_of, responses_of, responses_to, Got, PutsBoth, joined, nothing, output, response_record, Answers, IsTogether, Keeps, State, Stop}
 use Rattle.abstract_port.proofs.RunLaws.{IsTimely, same-event, settled-after, settled-current, timely-after, timely-settled, timely-sound}
 use Rattle.script.specs.Responses.{Faulted, response_lines}
-use Rattle.replay.proofs.SeenLaws.{seen-append, seen-nil, seen-settled, seen_of}
-use Rattle.replay.proofs.Sends.{both_all, both_exit, both_none, both_stop, both_then, never, on_ok_map, puts_kept}
+use Rattle.replay.specs.SeenLaws.{seen-append, seen-nil, seen-settled, seen_of}
+use Rattle.replay.specs.Sends.{both_all, both_exit, both_none, both_stop, both_then, never, on_ok_map, puts_kept}
 
 -- the port after requests
 abbrev pub after : List Request → AbstractPort → AbstractPort
@@ -118,33 +118,12 @@ done_kept h d report departures = record {
 }
 
 module _ {es : Origin} {s t : State} {all : List Request} (sound : IsSoundPort s.port) where
-  -- more of it
-  pub done_more : {T : Type 0} {x : T} {left : List Request} (u : State) (xs rest : List Request) → Done es s t left all → left ≡ xs ++ rest → Answers {T = T} es (Ok x) xs t u → Done es s u rest all
-  done_more {T} {x} {left} u xs rest d e a = record {
-    done = d.done ++ xs;
-    parts = append_assoc d.done xs rest ∙ ap (λ (y : List Request). d.done ++ y) (sym e) ∙ d.parts;
-    answers = answers_then {U = Unit {0}} {y = tt} (Ok tt) es d.done xs s t u sound d.answers (record { port = a.port; keeps = a.keeps; seen = a.seen; out = same_out a.out });
-  }
-    where
-      same_out : PutsBoth {T = T} (Ok x) t.got u.got (output es (responses_of xs t.port)) → PutsBoth {T = Unit {0}} (Ok tt) t.got u.got (output es (responses_of xs t.port))
-      same_out p = record { left = p.left; sent = p.sent; all = p.all }
-
   -- all of it
   pub done_all : Done es s t [] all → Answers {T = Unit {0}} es (Ok tt) all s t
   done_all d = subst (λ (x : List Request). Answers {T = Unit {0}} es (Ok tt) x s t) (sym (append-nil d.done) ∙ d.parts) d.answers
 
-  -- the last call, for what is left
-  pub done_last : {T : Type 0} {left : List Request} (r : Result T Stop) (u : State) → Done es s t left all → Answers es r left t u → Answers es r all s u
-  done_last {T} {left} r u d a = subst (λ (x : List Request). Answers es r x s u) d.parts (answers_then {U = Unit {0}} {y = tt} r es d.done left s t u sound d.answers a)
-
-  -- the exit of a call that failed in the next part
-  pub done_exit : {T U : Type 0} {y : Stop} {left : List Request} (r : Result T Stop) (u : State) (xs rest : List Request) → r ≡ Err y → Done es s t left all → left ≡ xs ++ rest → Answers {T = U} es (Err y) xs t u → Answers es r all s u
-  done_exit {T} {U} {y} {left} r u xs rest is d e a =
-      done_last r u d (subst (λ (x : List Request). Answers es r x t u) (sym e) (answers_exit r es xs rest t u is a))
-
   -- the exit where nothing was asked
   pub done_stop : {T : Type 0} {y : Stop} {left : List Request} (r : Result T Stop) → r ≡ Err y → Done es s t left all → Answers es r all s t
-  done_stop {T} {y} {left} r is d = done_last r t d (record { port = never _ is; keeps = never _ is; seen = never _ is; out = both_stop r is (both_none t.got _) })
-
-  pub done_whole : {left : List Request} → Done es s t left all → left ≡ [] → Answers {T = Unit {0}} es (Ok tt) all s t
-  done_whole {left} d e = done_all (subst (λ (x : List Request). Done es s t x all) e d)
+  done_stop {T} {y} {left} r is d =
+      let last : Answers es r left t t = record { port = never _ is; keeps = never _ is; seen = never _ is; out = both_stop r is (both_none t.got _) } in
+      subst (λ (x : List Request). Answers es r x s t) d.parts (answers_then {U = Unit {0}} {y = tt} r es d.done left s t t sound d.answers last)
