@@ -270,7 +270,5 @@ pub fn replay<A: Allocator, R: Read + Drop, S: Read + Drop, V: PutLine, W: PutLi
         (result ≡ Err (Faults.Input Inputs.Until)) × (outputs.new ≡ outputs.old) }
 {
     let timing = Timing { stamp, shift: None };
-    replay_timed(
-        alloc, script, capture, outputs, settings, timing, watch,
-    )
+    replay_timed(alloc, script, capture, outputs, settings, timing, watch)
 }

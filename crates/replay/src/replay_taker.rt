@@ -133,7 +133,8 @@ fn flush_both<V: Write, W: Write>(outputs: &mut Outputs<V, W>) -> Result<(), Sto
     Ok(())
 }
 
-impl<A: Allocator + Clone, V: PutLine, W: PutLine, P: Watch> Taker<Outputs<V, W>, P> for Sending<A> {
+impl<A: Allocator + Clone, V: PutLine, W: PutLine, P: Watch> Taker<Outputs<V, W>, P>
+    for Sending<A> {
     ghost use Rattle.replay.specs.RunState.{IsTogether, state, state_of};
     ghost use Rattle.replay.specs.Beside.{AnsweredBeside, StoppedBeside, beside_both, beside_later, beside_none, beside_sooner, beside_unread};
     ghost use Rattle.std.specs.Prelude.{None};
