@@ -4,10 +4,7 @@ use Rattle.std.specs.Prelude.{IfSome}
 use Rattle.std.specs.Io.KnownBytes.{Appends}
 use Rattle.std.proofs.KnownBytes.{Keeps-refl}
 use Rattle.abstract_port.specs.Settled.{IsSettling}
-use Rattle.capture.specs.CaptureReader.{Left, Next, answer}
 use Rattle.capture.specs.FileHeader.{format_of}
-use Rattle.capture.specs.declared.record.Record.{Record}
-use Rattle.capture.specs.declared.writer.TheConstants.{CAPTURE_END}
 use Rattle.job.specs.Outcome.{Outcome, RunsOut}
 use Rattle.job.specs.RunEnd.{IsEndOf, IsOrFails}
 use Rattle.job.specs.declared.fault.Fault.TheVariants as Faults
@@ -17,12 +14,8 @@ use Rattle.picture.specs.Drawn.{Drawing, new_drawing}
 use Rattle.replay.specs.Lines as Beside
 use Rattle.replay.specs.Outcome.{IsOpenFault, ended_by}
 use Rattle.replay.specs.WholeScript.{IsScriptFault}
-use Rattle.replay.specs.declared.cursor.Cursor.{Cursor}
 use Rattle.replay.specs.declared.faults.ReplayInput.TheVariants as Inputs
-use Rattle.replay.specs.declared.faults.Stop.TheVariants as Stops
-use Rattle.replay.specs.declared.kept_script.KeptScript.{KeptScript}
 use Rattle.replay.proofs.EndLaws.{no_fault, some_fault}
-use Rattle.replay.proofs.LineLaws.{all_lines}
 use Rattle.replay.proofs.ReplayLaws.{known_at, when_known}
 use Rattle.script.specs.Responses.{events_of}
 use Rattle.script.specs.Setup.{Setup}
@@ -33,25 +26,12 @@ use Rattle.drawing.specs.Course.{seen_after}
 use Rattle.drawing.specs.Followed.{BandsOfRequests, BandsTo}
 use Rattle.drawing.specs.OfCapture.{BandsOfCapture, BandsRead, picture_said, refused}
 use Rattle.drawing.specs.PictureEnd.{picture_by, picture_to}
-use Rattle.drawing.specs.Words.{AbstractPort, BadLine, BandsOfBoth, CapFault, Command, Course, DrawsAll, End, EndsSo, Entry, Fault, ForSomeBands, IsCapturePicture, IsDrawnBeside, IsDrawnWhole, IsReader, IsSoundPort, Place, ReadsAs, ReplayInput, Request, TcFault, Timed, WhereWhole, asked_to, before_end, came_from, first_place, is_too_late, lines_after, lines_by, lines_left, merged, picture_of_capture, picture_read, port_on, replay_telling, requests_of, run_end, timed_from}
+use Rattle.drawing.specs.Words.{AbstractPort, BadLine, BandsOfBoth, CapFault, Command, Course, DrawsAll, End, EndsSo, Entry, Fault, ForSomeBands, IsCapturePicture, IsDrawnBeside, IsDrawnWhole, IsReader, IsSoundPort, Place, ReadsAs, ReplayInput, Request, TcFault, WhereWhole, asked_to, came_from, first_place, is_too_late, merged, picture_of_capture, picture_read, port_on, replay_telling, run_end, timed_from}
 use Rattle.drawing.specs.declared.options.DrawOptions.{DrawOptions}
 use Rattle.drawing.proofs.EndLaws.{front_of_nothing, map_bands, with_some}
-use Rattle.drawing.proofs.WalkLaws.{bands_drawn, both_drawn, drawn_from}
+use Rattle.drawing.proofs.WalkLaws.{bands_drawn, drawn_from}
 
--- what was answered is known
-pub answered : {R : Type 0} (remaining : R → Option (List ℕ)) (l after : Left R) {a b : Result (Option Record) CapFault} → a ≡ b → Next remaining l (answer a) after → Next remaining l (answer b) after
-answered remaining l after is p = subst (λ (x : Result (Option Record) CapFault). Next remaining l (answer x) after) is p
-
--- 1. The lines after the records, and the end
-
--- the lines that are left after the records are drawn: no line that is kept is after the last moment that a capture can say
-pub lines_drawn : {A : Type 0} (s : Setup) (o : DrawOptions) (read : List (List ℕ) → Result Command TcFault) (script : KeptScript A) (cursor : Cursor) (requests : List Request) (entries : List Entry) (x y z : Place)
-    → lines_left read script cursor ≡ lines_after (timed_from 0 requests) (came_from 0 0 entries) → DrawsAll s o (before_end (timed_from 0 requests) (came_from 0 0 entries)) x y
-    → DrawsAll s o (requests_of (lines_by CAPTURE_END (lines_left read script cursor))) y z → DrawsAll s o (merged (timed_from 0 requests) (came_from 0 0 entries)) x z
-lines_drawn s o read script cursor requests entries x y z left before after =
-    let every = all_lines read script.octets.items script.lines.items cursor.at cursor.clock script.kept cursor.early in
-    let P : List Timed → Type 0 = λ ls. DrawsAll s o (requests_of ls) y z in
-    both_drawn s o (before_end (timed_from 0 requests) (came_from 0 0 entries)) _ x y z before (subst P (every ∙ left) after)
+-- 1. The end
 
 -- up to which moment a run was to go on
 pub asked_is : (until : Option ℕ) (p q : AbstractPort) → q ≡ port_on (Some (run_end until)) p → asked_to until p.now q.now ≡ (port_on until p).now
@@ -63,10 +43,6 @@ asked_is (Some until) p q e = ap (λ (r : AbstractPort). r.now) e
 module _ (s : Setup) (o : DrawOptions) (script : List Request) (entries : List Entry) (last : End) where
   abbrev asked : List Request
   asked = merged (timed_from 0 script) (came_from 0 0 entries)
-
-  -- the whole picture, and its bands
-  abbrev pub Drew : Place → Drawing → List ℕ → Type 0
-  Drew y b text = BandsTo (Some (run_end s.until)) s o y.port y.course y.bands b × (text ≡ picture_to (Some (run_end s.until)) s o y.port y.course b)
 
   module _ (law : IsSettling) (x y : Place) (first : x ≡ first_place s o) (sound : IsSoundPort x.port) (drawn : DrawsAll s o asked x y) where
     -- the picture after all requests is that of both

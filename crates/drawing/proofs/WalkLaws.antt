@@ -1,5 +1,5 @@
 -- A run that is drawn request by request.
-use Rattle.std.proofs.Common.{◌≡◌, List, [], ◌∷◌, ◌++◌, append_assoc, append-nil, refl, sym, ap, ◌∙◌, subst}
+use Rattle.std.proofs.Common.{◌≡◌, List, [], ◌∷◌, refl, sym, ap, ◌∙◌, subst}
 use Rattle.abstract_port.specs.Answers.{port_after}
 use Rattle.abstract_port.specs.Settled.{IsSettling}
 use Rattle.script.specs.Responses.{events_of, responses_to}
@@ -8,31 +8,14 @@ use Rattle.script.proofs.LineSteps.{StandsFor, stands-after, stands_for_itself}
 use Rattle.script.proofs.OutputLaws.{events-more}
 use Rattle.drawing.specs.Course.{seen_after}
 use Rattle.drawing.specs.Followed.{BandsAfter}
-use Rattle.drawing.specs.Words.{AbstractPort, Course, DrawsAll, DrawsOne, IsSoundPort, Place, Request, seen_by, settled}
+use Rattle.drawing.specs.Words.{AbstractPort, Course, Draws, DrawsAll, DrawsOne, IsSoundPort, Place, Request, drawn_place, seen_by, settled}
+use Rattle.drawing.specs.declared.drawn.Drawn.{Drawn}
 use Rattle.drawing.specs.declared.options.DrawOptions.{DrawOptions}
 use Rattle.drawing.proofs.TakenLaws.{request_drawn, same-drawn}
 
 module _ (s : Setup) (o : DrawOptions) where
   pub one_drawn : (r : Request) (x y : Place) → DrawsOne s o r x y → DrawsAll s o (r ∷ []) x y
   one_drawn r x y one = (y, (one, refl))
-
-  -- requests are drawn, and then others
-  pub both_drawn : (xs ys : List Request) (x y z : Place) → DrawsAll s o xs x y → DrawsAll s o ys y z → DrawsAll s o (xs ++ ys) x z
-  both_drawn [] ys x y z a b = subst (λ (u : Place). DrawsAll s o ys u z) a b
-  both_drawn (r ∷ xs) ys x y z (mid, (one, rest)) b = (mid, (one, both_drawn xs ys mid y z rest b))
-
-  -- of all requests all are drawn but these
-  abbrev pub Stands : List Request → Place → Place → List Request → Type 0
-  Stands all x y rest = (done : List Request) × ((all ≡ done ++ rest) × DrawsAll s o done x y)
-
-  pub begun : (all : List Request) (x : Place) → Stands all x x all
-  begun all x = ([], (refl, refl))
-
-  pub goes_on : (all xs rest : List Request) (x y z : Place) → Stands all x y (xs ++ rest) → DrawsAll s o xs y z → Stands all x z rest
-  goes_on all xs rest x y z (done, (is, drawn)) more = (done ++ xs, (is ∙ sym (append_assoc done xs rest), both_drawn done xs x y z drawn more))
-
-  pub all_drawn : (all : List Request) (x y : Place) → Stands all x y [] → DrawsAll s o all x y
-  all_drawn all x y (done, (is, drawn)) = subst (λ (rs : List Request). DrawsAll s o rs x y) (sym (is ∙ append-nil done)) drawn
 
   -- the bands after them
   pub bands_drawn : (requests : List Request) (x y : Place) → DrawsAll s o requests x y → BandsAfter s o requests x.port x.course x.bands y.bands
@@ -56,3 +39,7 @@ module _ (s : Setup) (o : DrawOptions) where
   pub drawn_from : IsSettling → (requests : List Request) (x y : Place) → IsSoundPort x.port → DrawsAll s o requests x y
       → (y.port ≡ settled (port_after (events_of requests) x.port)) × (y.course ≡ seen_after (events_of requests) x.port x.course)
   drawn_from law requests x y sound all = drawn_for law requests x y x.port (stands_for_itself x.port sound) all
+
+-- one request is
+pub draws_one : (r : Request) (d e : Drawn) → DrawsOne d.settings d.options r (drawn_place d) (drawn_place e) → e.settings ≡ d.settings → e.options ≡ d.options → Draws (r ∷ []) d e
+draws_one r d e one settings options = record { drawn = one_drawn d.settings d.options r (drawn_place d) (drawn_place e) one; settings = settings; options = options }

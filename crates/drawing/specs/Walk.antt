@@ -1,15 +1,8 @@
--- A run that is drawn request by request: where it stands, and what a script and a capture leave of it.
-use Rattle.std.specs.Prelude.{◌≡◌, ℕ, List, [], ◌∷◌, Option, Some, None, Result, Ok, Err}
+-- A run that is drawn request by request: where it stands, and what requests leave of it.
+use Rattle.std.proofs.Common.{◌≡◌, List, [], ◌∷◌, ◌++◌, refl, ◌∙◌, subst}
 use Rattle.abstract_port.specs.AbstractPort.{AbstractPort, new_port, settled}
 use Rattle.abstract_port.specs.Sound.{IsSoundPort}
-use Rattle.capture.specs.Records.{Entry}
-use Rattle.capture.specs.declared.fault.CapFault.{CapFault}
-use Rattle.capture.specs.declared.reader.End.{End}
 use Rattle.picture.specs.Drawn.{Drawing}
-use Rattle.replay.specs.Merge.{Timed, before_end, came_from, lines_after, merged, timed_from}
-use Rattle.replay.specs.RecordsLeft.{EndsSo}
-use Rattle.replay.specs.declared.faults.Stop.{Stop}
-use Rattle.replay.specs.declared.faults.Stop.TheVariants as Stops
 use Rattle.script.specs.Requests.{Request}
 use Rattle.script.specs.Responses.{responses_to}
 use Rattle.script.specs.Setup.{Setup}
@@ -17,6 +10,7 @@ use Rattle.drawing.specs.Course.{Course}
 use Rattle.drawing.specs.Followed.{BandsBy, first_bands}
 use Rattle.drawing.specs.PictureEnd.{first_course}
 use Rattle.drawing.specs.Taken.{seen_by}
+use Rattle.drawing.specs.declared.drawn.Drawn.{Drawn}
 use Rattle.drawing.specs.declared.options.DrawOptions.{DrawOptions}
 
 -- a port, what is drawn of it so far, and its bands
@@ -44,14 +38,32 @@ abbrev pub DrawsAll : Setup → DrawOptions → List Request → Place → Place
 DrawsAll s o [] from upto = upto ≡ from
 DrawsAll s o (r ∷ rest) from upto = (mid : Place) × (DrawsOne s o r from mid × DrawsAll s o rest mid upto)
 
--- The records of a capture have come to this end: the fault that is found is the end's, the lines that are left are those after the last record, and what
--- comes up to it is drawn. Or a read failed.
-abbrev pub DrawsRecords : Setup → DrawOptions → List Entry → End → (all lines : List Timed) → Result (Option (ℕ × CapFault)) Stop → Place → Place → Type 0
-DrawsRecords s o entries last all lines (Ok found) from upto =
-    EndsSo entries last found × ((lines ≡ lines_after all (came_from 0 0 entries)) × DrawsAll s o (before_end all (came_from 0 0 entries)) from upto)
-DrawsRecords s o entries last all lines (Err stop) from upto = stop ≡ Stops.Read
+-- a run that is drawn stands at such a place
+abbrev pub drawn_place : Drawn → Place
+drawn_place d = place d.port.port d.course d.bands
 
--- and so have the lines that a script asks
-abbrev pub DrawsBoth : Setup → DrawOptions → List Request → List Entry → End → Result (Option (ℕ × CapFault)) Stop → Place → Place → Type 0
-DrawsBoth s o script entries last (Ok found) from upto = EndsSo entries last found × DrawsAll s o (merged (timed_from 0 script) (came_from 0 0 entries)) from upto
-DrawsBoth s o script entries last (Err stop) from upto = stop ≡ Stops.Read
+-- a run comes by these requests to another place, where it is drawn by the same settings and options
+pub record Draws (requests : List Request) (from upto : Drawn) : Type 0 where
+  pub drawn : DrawsAll from.settings from.options requests (drawn_place from) (drawn_place upto)
+  pub settings : upto.settings ≡ from.settings
+  pub options : upto.options ≡ from.options
+
+-- requests are drawn, and then others
+pub both_drawn : (s : Setup) (o : DrawOptions) (xs ys : List Request) (x y z : Place) → DrawsAll s o xs x y → DrawsAll s o ys y z → DrawsAll s o (xs ++ ys) x z
+both_drawn s o [] ys x y z a b = subst (λ (u : Place). DrawsAll s o ys u z) a b
+both_drawn s o (r ∷ xs) ys x y z (mid, (one, rest)) b = (mid, (one, both_drawn s o xs ys mid y z rest b))
+
+-- nothing is asked
+pub draws_none : (d : Drawn) → Draws [] d d
+draws_none d = record { drawn = refl; settings = refl; options = refl }
+
+-- requests are drawn, and then others
+pub draws_both : (xs ys : List Request) (d e f : Drawn) → Draws xs d e → Draws ys e f → Draws (xs ++ ys) d f
+draws_both xs ys d e f a b =
+    let P : Setup → Type 0 = λ s. DrawsAll s e.options ys (drawn_place e) (drawn_place f) in
+    let Q : DrawOptions → Type 0 = λ o. DrawsAll d.settings o ys (drawn_place e) (drawn_place f) in
+    record {
+      drawn = both_drawn d.settings d.options xs ys (drawn_place d) (drawn_place e) (drawn_place f) a.drawn (subst Q a.options (subst P a.settings b.drawn));
+      settings = b.settings ∙ a.settings;
+      options = b.options ∙ a.options;
+    }

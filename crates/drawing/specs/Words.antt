@@ -5,7 +5,7 @@ pub use Rattle.abstract_port.specs.Answers.{answers_to}
 pub use Rattle.abstract_port.specs.Asked.{answers_left}
 pub use Rattle.abstract_port.specs.Sound.{IsSoundPort}
 pub use Rattle.abstract_port.specs.declared.Command.{Command}
-pub use Rattle.abstract_port.specs.declared.Event.TheVariants.{Arrive, Clock, Count, Query}
+pub use Rattle.abstract_port.specs.declared.Event.TheVariants.{Arrive, Clock}
 pub use Rattle.capture.specs.CaptureReader.{left}
 pub use Rattle.capture.specs.Record.{entry, frame_of}
 pub use Rattle.capture.specs.Records.{Entry}
@@ -20,14 +20,12 @@ pub use Rattle.picture.specs.Lanes.{Filled, joined_at, no_shapes}
 pub use Rattle.picture.specs.Viewports.{pixel_of, x_in}
 pub use Rattle.picture.specs.declared.TheConstants.{MOST_SHAPES}
 pub use Rattle.replay.specs.KeptScript.{IsKept, kept_request, kept_requests}
-pub use Rattle.replay.specs.LinesLeft.{lines_left}
-pub use Rattle.replay.specs.Merge.{Timed, before_end, came_from, lines_after, lines_by, lines_past, merged, requests_of, timed_from}
-pub use Rattle.replay.specs.Outcome.{ReadsAs, end_fault, is_too_late}
+pub use Rattle.replay.specs.Merge.{came_from, merged, timed_from}
+pub use Rattle.replay.specs.Outcome.{ReadsAs, is_too_late}
 pub use Rattle.replay.specs.RecordsLeft.{Comes, EndsSo}
 pub use Rattle.replay.specs.RunEnd.{run_end}
 pub use Rattle.replay.specs.Texts.{replay_telling}
 pub use Rattle.replay.specs.declared.faults.ReplayInput.{ReplayInput}
-pub use Rattle.replay.specs.declared.faults.Stop.{Stop}
 pub use Rattle.script.specs.ScriptEnd.{settings_given}
 pub use Rattle.script.specs.Given.{octets_of, words_of_values}
 pub use Rattle.script.specs.Outcome.{Reading, bad_line, reading_of}
@@ -46,5 +44,5 @@ unfoldable pub use Rattle.drawing.specs.Shapes.{bands_to, shapes_to, waits_on}
 pub use Rattle.drawing.specs.Taken.{Takes, TakesLine, course_on, last_moment, port_on, seen_by}
 pub use Rattle.drawing.specs.View.{shows}
 pub use Rattle.drawing.specs.OfCapture.{BandsOfBoth, IsCapturePicture, IsDrawnBeside, IsDrawnWhole, WhereWhole, asked_to, picture_of_capture, picture_read}
-pub use Rattle.drawing.specs.Walk.{DrawsAll, DrawsBoth, DrawsOne, DrawsRecords, Place, first_place, place}
+pub use Rattle.drawing.specs.Walk.{Draws, DrawsAll, DrawsOne, Place, drawn_place, first_place}
 pub use Rattle.drawing.specs.Arrivals.{none_wait, none_waits, waiting_in, with_arrival, without_first}

@@ -5,73 +5,23 @@ ghost use Rattle.text.specs.Writes.{Writes};
 ghost use Rattle.drawing.specs.Followed.{BandsTo};
 ghost use Rattle.drawing.specs.OfCapture.{BandsOfBoth, IsDrawnBeside, IsDrawnWhole, WhereWhole, asked_to, picture_read};
 ghost use Rattle.drawing.specs.PictureEnd.{picture_to};
-ghost use Rattle.drawing.specs.Words.{CapFault, Command, Comes, DrawsBoth, End, Entry, ForSomeBands, IsReader, IsSoundPort, ReadsAs, TcFault, end_fault, greatest_moment, first_place, is_too_late, kept_requests, left, place, run_end};
+ghost use Rattle.drawing.specs.Words.{CapFault, Command, Comes, End, Entry, ForSomeBands, IsReader, IsSoundPort, ReadsAs, TcFault, greatest_moment, first_place, is_too_late, kept_requests, left, drawn_place, run_end};
 ghost use Rattle.job.specs.declared.fault.Fault.TheVariants as Faults;
 ghost use Rattle.replay.specs.declared.faults.ReplayInput.TheVariants as Inputs;
 
-use crate::course::Course;
 use crate::draw_run::{draw_ended, run_on};
-use crate::drawn::new_drawn;
-use crate::kept_lines::take_lines;
+use crate::drawn::{Drawn, new_drawn};
 use crate::options::DrawOptions;
-use crate::records::take_records;
 use abstract_port::separation::settling;
-use capture::{CAPTURE_END, CapFault, CaptureReader};
-use picture::Bands;
+use capture::CaptureReader;
 use port_text::answer_text::WriteFault;
 use replay::{
-    Cursor, KeptScript, ReplayFault, ReplayInput, Stop, ended_by, is_too_late, open_capture,
-    read_script, run_end,
+    KeptScript, ReplayFault, ReplayInput, ended_by, is_too_late, open_capture, read_script,
+    run_end, walk_both,
 };
-use script::{RunningPort, Settings, Watch};
+use script::{Settings, Watch};
 use std::alloc::{Allocator, Global};
 use std::io::{Read, Write};
-
-/// Takes the records and the lines, to the end of both, which are drawn. The number of the record at which the capture
-/// ends with a fault, and the fault.
-fn take_both<A: Allocator, B: Allocator, C: Allocator, R: Read, H: Watch>(
-    port: &mut RunningPort<A>,
-    bands: &mut Bands<A>,
-    course: &mut Course<A>,
-    script: &KeptScript<B>,
-    records: &mut CaptureReader<R, C>,
-    settings: Settings,
-    options: DrawOptions,
-    watch: &mut H,
-) -> Result<Option<(u32, CapFault)>, Stop>
-    requires begun { (left records.old).ended ≡ None }
-    requires first { (left records.old).number ≡ 0 }
-    ensures { (read : List (List ℕ) → Result Command TcFault) → IsReader read →
-        (entries : List Entry) (last : End) → Comes R.remaining (left records.old) entries last →
-        DrawsBoth settings options
-        (kept_requests read script.now.octets.items script.now.lines.items) entries last result
-        (place port.old.port course.old bands.old) (place port.new.port course.new bands.new) }
-{
-    let mut cursor = Cursor { at: 0, clock: 0 };
-    let broken = take_records(
-        port,
-        bands,
-        course,
-        script,
-        &mut cursor,
-        records,
-        settings,
-        options,
-        watch,
-    )?;
-    take_lines(
-        port,
-        bands,
-        course,
-        script,
-        &mut cursor,
-        CAPTURE_END,
-        settings,
-        options,
-        watch,
-    );
-    Ok(broken)
-}
 
 /// Up to which moment a run was to go on that came from one moment to another, in picoseconds.
 fn asked_to(until: Option<u128>, from: u128, to: u128) -> u128
@@ -88,62 +38,58 @@ fn asked_to(until: Option<u128>, from: u128, to: u128) -> u128
 
 /// Runs on to the moment that the settings give, or where they give none until no frame can start any more; and then to
 /// the end of the picture, and writes it.
-fn draw_end_of_both<A: Allocator, W: Write>(
-    port: &mut RunningPort<A>,
-    bands: &mut Bands<A>,
-    course: &mut Course<A>,
-    writer: &mut W,
-    settings: Settings,
-    options: DrawOptions,
-) -> Result<(), WriteFault>
-    requires { is_too_late settings.until ≡ false }
-    ensures { ForSomeBands
-        (λ b. BandsTo (Some (run_end settings.until)) settings options port.old.port
-        course.old bands.old b
+fn draw_end_of_both<W: Write>(drawn: &mut Drawn, writer: &mut W) -> Result<(), WriteFault>
+    requires { is_too_late drawn.old.settings.until ≡ false }
+    ensures { let s = drawn.old.settings in let o = drawn.old.options in
+        ForSomeBands
+        (λ b. BandsTo (Some (run_end s.until)) s o drawn.old.port.port
+        drawn.old.course drawn.old.bands b
         × Writes result (W.contents writer.old) (W.contents writer.new)
-        (picture_to (Some (run_end settings.until)) settings options port.old.port
-        course.old b)) }
+        (picture_to (Some (run_end s.until)) s o drawn.old.port.port
+        drawn.old.course b)) }
 {
-    let from = port.now();
-    let until = settings.until();
-    run_on(port, course, Some(run_end(until)));
-    let asked = asked_to(until, from, port.now());
-    draw_ended(port, bands, course, writer, settings, options, asked)
+    let from = drawn.port.now();
+    let until = drawn.settings.until();
+    run_on(&mut drawn.port, &mut drawn.course, Some(run_end(until)));
+    let asked = asked_to(until, from, drawn.port.now());
+    draw_ended(
+        &mut drawn.port,
+        &mut drawn.bands,
+        &mut drawn.course,
+        writer,
+        drawn.settings,
+        drawn.options,
+        asked,
+    )
 }
 
 /// Draws the run of a kept script and of the records of a capture, of which nothing is drawn yet.
-fn draw_both<A: Allocator, B: Allocator, C: Allocator, R: Read, W: Write, H: Watch>(
-    port: &mut RunningPort<A>,
-    bands: &mut Bands<A>,
-    course: &mut Course<A>,
+fn draw_both<B: Allocator, C: Allocator, R: Read, W: Write, H: Watch>(
+    drawn: &mut Drawn,
     script: &KeptScript<B>,
     records: &mut CaptureReader<R, C>,
     writer: &mut W,
-    settings: Settings,
-    options: DrawOptions,
     watch: &mut H,
 ) -> Result<(), ReplayFault>
-    requires until { is_too_late settings.until ≡ false }
+    requires until { is_too_late drawn.old.settings.until ≡ false }
     requires begun { (left records.old).ended ≡ None }
     requires first { (left records.old).number ≡ 0 }
-    requires place { place port.old.port course.old bands.old ≡ first_place settings options }
-    requires sound { IsSoundPort port.old.port }
+    requires place { drawn_place drawn.old ≡ first_place drawn.old.settings drawn.old.options }
+    requires sound { IsSoundPort drawn.old.port.port }
     ensures { (read : List (List ℕ) → Result Command TcFault) → IsReader read →
         (entries : List Entry) (last : End) → Comes R.remaining (left records.old) entries last →
         ForSomeBands
         (λ bands. WhereWhole result
-        (BandsOfBoth settings options
+        (BandsOfBoth drawn.old.settings drawn.old.options
         (kept_requests read script.now.octets.items script.now.lines.items) entries bands)
         × IsDrawnWhole result (W.contents writer.old) (W.contents writer.new)
-        (picture_read settings options
+        (picture_read drawn.old.settings drawn.old.options
         (kept_requests read script.now.octets.items script.now.lines.items)
         (Ok (entries, last)) bands)) }
 {
     settling();
-    let broken = take_both(
-        port, bands, course, script, records, settings, options, watch,
-    )?;
-    draw_end_of_both(port, bands, course, writer, settings, options)?;
+    let broken = walk_both(drawn, script, records, None, &mut (), watch)?;
+    draw_end_of_both(drawn, writer)?;
     ended_by(broken)
 }
 
@@ -179,15 +125,5 @@ pub fn draw_capture<R: Read + Drop, S: Read + Drop, W: Write, H: Watch>(
     let script = read_script(&alloc, script, watch)?;
     let mut records = open_capture(&alloc, capture)?;
     let mut drawn = new_drawn(&alloc, settings, options)?;
-    draw_both(
-        &mut drawn.port,
-        &mut drawn.bands,
-        &mut drawn.course,
-        &script,
-        &mut records,
-        writer,
-        settings,
-        options,
-        watch,
-    )
+    draw_both(&mut drawn, &script, &mut records, writer, watch)
 }

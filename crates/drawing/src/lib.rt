@@ -2,9 +2,9 @@
 //! wait, and a lane for the wire.
 //!
 //! What is drawn is defined in specs/Course.antt and specs/Taken.antt, and the time that it covers in specs/Scope.antt;
-//! `take` promises it of the drawn run. Beside a capture a run is drawn of both by moment, as specs/OfCapture.antt defines
-//! it. The SVG text is defined in specs/Marks.antt, specs/Axis.antt and
-//! specs/Picture.antt, and how a run ends in specs/PictureEnd.antt.
+//! `take` promises it of the drawn run. Beside a capture a run is drawn of both by moment, as specs/OfCapture.antt
+//! defines it. The SVG text is defined in specs/Marks.antt, specs/Axis.antt and specs/Picture.antt, and how a run ends
+//! in specs/PictureEnd.antt.
 #![tactic(auto)]
 
 mod arrivals;
@@ -13,12 +13,10 @@ mod course;
 mod draw_job;
 mod draw_run;
 mod drawn;
-mod kept_lines;
 pub mod laws;
 mod marks;
 mod options;
 mod page;
-mod records;
 mod scope;
 mod shapes;
 mod svg;

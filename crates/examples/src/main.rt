@@ -5,7 +5,7 @@
 #![tactic(auto)]
 
 use drawing::{DrawOptions, draw};
-use replay::{Stamp, replay};
+use replay::{Outputs, Stamp, replay};
 use schedule_check::{CheckSettings, check};
 use script::{Settings, Unwatched, run_script};
 use std::rt::Files;
@@ -157,22 +157,23 @@ fn replay_agrees<R: Files + AllocGlobal>(rt: &R, summary: bool) -> io::Result<bo
         return Ok(false);
     };
     let settings = settings.with_summary(summary);
-    let mut told = Vec::new(rt.alloc());
-    let mut left = Vec::new(rt.alloc());
+    let mut written = Outputs {
+        report: Vec::new(rt.alloc()),
+        departures: Vec::new(rt.alloc()),
+    };
     let replayed = replay(
         rt.alloc(),
         script.as_slice(),
         capture.as_slice(),
-        &mut left,
-        &mut told,
+        &mut written,
         settings,
         Stamp::Start,
         &mut Unwatched,
     );
     Ok(
         replayed.is_ok()
-            && told.as_slice() == report.as_slice()
-            && left.as_slice() == departures.as_slice(),
+            && written.report.as_slice() == report.as_slice()
+            && written.departures.as_slice() == departures.as_slice(),
     )
 }
 

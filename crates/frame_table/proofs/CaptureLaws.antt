@@ -1,5 +1,5 @@
 -- A run on a script and a capture, from what its parts leave.
-use Rattle.std.proofs.Common.{◌≡◌, ℕ, List, length, false, true, Option, Some, None, Result, Ok, Err, refl, sym, ap, ◌∙◌, subst, ◌++◌, ◌∷◌, append_assoc, []}
+use Rattle.std.proofs.Common.{◌≡◌, ℕ, List, length, false, true, Option, Some, None, Result, Ok, Err, refl, sym, ap, ◌∙◌, subst, ◌∷◌, []}
 use Rattle.text.proofs.Fronts.{Appends-nil, sent_none}
 use Rattle.capture.specs.FileHeader.{format_of}
 use Rattle.job.specs.declared.fault.Fault.TheVariants as Faults
@@ -7,50 +7,46 @@ use Rattle.text.specs.Script.{script_of}
 use Rattle.replay.specs.Lines as Beside
 use Rattle.replay.specs.Outcome.{IsOpenFault}
 use Rattle.replay.specs.WholeScript.{IsScriptFault}
+use Rattle.replay.specs.RecordsLeft.{ComesMoved}
 use Rattle.replay.specs.declared.faults.ReplayInput.TheVariants as Inputs
+use Rattle.replay.specs.declared.faults.Stop.{Stop}
+use Rattle.replay.specs.declared.faults.Stop.TheVariants as Stops
 use Rattle.replay.proofs.EndLaws.{no_fault, some_fault}
+use Rattle.replay.proofs.RecordLaws.{unmoved}
 use Rattle.replay.proofs.ReplayLaws.{known_at}
 use Rattle.script.specs.Alerts.{Alert, AlertedFront, Alerting}
 use Rattle.script.specs.Setup.{Setup}
 use Rattle.script.proofs.AlertLaws.{alerts_same}
 use Rattle.frame_table.specs.Alerts.{both_alerts, records_alerts}
 use Rattle.frame_table.specs.OfCapture.{frames_read, frames_said, refused}
-use Rattle.capture.specs.declared.writer.TheConstants.{CAPTURE_END}
-use Rattle.replay.specs.declared.cursor.Cursor.{Cursor}
-use Rattle.replay.specs.declared.kept_script.KeptScript.{KeptScript}
-use Rattle.replay.proofs.LineLaws.{all_lines}
 use Rattle.frame_table.proofs.WalkLaws.{begun}
-use Rattle.frame_table.specs.Words.{Asks, Clock, IsSoundPort, Place, Request, Stands, Stream, TakesRecords, Timed, all_requests, before_end, came_from, lines_after, lines_by, lines_left, requests_of, run_end, timed_from, to_run_end, BadLine, CapFault, Command, End, Entry, Fault, Outcome, ReadsAs, Reading, ReplayInput, RunsBoth, RunsOut, TcFault, WatchedRun, capture_alerts, end_fault, frames_of_capture, is_too_late, run_of_both}
+use Rattle.frame_table.specs.Words.{Asks, BadLine, CapFault, Clock, Comes, Command, End, EndsHere, Entry, Fault, IsSoundPort, Outcome, Place, ReadsAs, Reading, ReplayInput, Request, RunsBoth, RunsOut, Stands, StopsAt, TakesRows, TcFault, WatchedRun, capture_alerts, end_fault, fault_of, frames_of_capture, is_too_late, run_end, run_of_both, to_run_end}
 
--- a call failed before the end of the records is known to be met
-pub both_fail : {fault : Fault BadLine} (entries : List Entry) (last : End) (r : Result (Option (ℕ × CapFault)) (Fault BadLine)) (old new : Option (List ℕ)) (whole : Outcome BadLine) → r ≡ Err fault → RunsOut {T = Unit {0}} (Err fault) old new whole → RunsBoth entries last r old new whole
-both_fail {fault} entries last r old new whole is w = subst (λ (q : Result (Option (ℕ × CapFault)) (Fault BadLine)). RunsBoth entries last q old new whole) (sym is) (failed fault w)
+-- a call stopped before the end of the records is known to be met
+pub both_fail : (stop : Stop) (entries : List Entry) (last : End) (r : Result (Option (ℕ × CapFault)) Stop) (old new : Option (List ℕ)) (whole : Outcome BadLine) → r ≡ Err stop → RunsOut {T = Unit {0}} (Err (fault_of stop)) old new whole → RunsBoth entries last r old new whole
+both_fail stop entries last r old new whole is w = subst (λ (q : Result (Option (ℕ × CapFault)) Stop). RunsBoth entries last q old new whole) (sym is) (failed stop w)
   where
-    failed : (fault : Fault BadLine) → RunsOut {T = Unit {0}} (Err fault) old new whole → RunsBoth entries last (Err fault) old new whole
-    failed (Faults.Input bad) w = record { ending = tt; out = w }
-    failed Faults.Read w = record { ending = tt; out = w }
-    failed Faults.Write w = record { ending = tt; out = w }
-    failed Faults.Memory w = record { ending = tt; out = w }
+    failed : (stop : Stop) → RunsOut {T = Unit {0}} (Err (fault_of stop)) old new whole → RunsBoth entries last (Err stop) old new whole
+    failed Stops.Read w = record { ending = tt; out = w }
+    failed Stops.Write w = record { ending = tt; out = w }
+    failed Stops.Memory w = record { ending = tt; out = w }
 
 -- how a run ends whose capture ends so
-pub both_ended : (entries : List Entry) (last : End) (r : Result (Option (ℕ × CapFault)) (Fault BadLine)) (old new : Option (List ℕ)) (whole : Outcome BadLine) → whole.fault ≡ None → RunsBoth entries last r old new whole
+pub both_ended : (entries : List Entry) (last : End) (r : Result (Option (ℕ × CapFault)) Stop) (old new : Option (List ℕ)) (whole : Outcome BadLine) → RunsBoth entries last r old new whole
     → RunsOut (run_of_both r) old new (record { text = whole.text; fault = end_fault (length entries) last })
-both_ended entries last (Ok None) old new whole none b = (no_fault entries last (length entries) b.ending, b.out.1)
-both_ended entries last (Ok (Some (number, fault))) old new whole none b = (some_fault entries last number fault b.ending, b.out.1)
-both_ended entries last (Err (Faults.Input bad)) old new whole none b = absurd (let both : ◌≡◌ {A = Option BadLine} None (Some bad) = sym none ∙ b.out.0 in cc)
-both_ended entries last (Err Faults.Read) old new whole none b = b.out
-both_ended entries last (Err Faults.Write) old new whole none b = b.out
-both_ended entries last (Err Faults.Memory) old new whole none b = b.out
+both_ended entries last (Ok None) old new whole b = (no_fault entries last (length entries) b.ending, b.out.1)
+both_ended entries last (Ok (Some (number, fault))) old new whole b = (some_fault entries last number fault b.ending, b.out.1)
+both_ended entries last (Err Stops.Read) old new whole b = b.out
+both_ended entries last (Err Stops.Write) old new whole b = b.out
+both_ended entries last (Err Stops.Memory) old new whole b = b.out
 
 -- and what was told then
-pub both_told : {H : Type 0} (alerted : List Alert → H → H → Type 0) (all : List Alert) (entries : List Entry) (last : End) (r : Result (Option (ℕ × CapFault)) (Fault BadLine)) (old new : Option (List ℕ)) (whole : Outcome BadLine) (h k : H) → whole.fault ≡ None → RunsBoth entries last r old new whole
-    → Alerting alerted all r h k → WatchedRun alerted all (run_of_both r) h k
-both_told alerted all entries last (Ok None) old new whole h k none b a = a
-both_told alerted all entries last (Ok (Some (number, fault))) old new whole h k none b a = a
-both_told alerted all entries last (Err (Faults.Input bad)) old new whole h k none b a = absurd (let both : ◌≡◌ {A = Option BadLine} None (Some bad) = sym none ∙ b.out.0 in cc)
-both_told alerted all entries last (Err Faults.Read) old new whole h k none b a = a
-both_told alerted all entries last (Err Faults.Write) old new whole h k none b a = a
-both_told alerted all entries last (Err Faults.Memory) old new whole h k none b a = a
+pub both_told : {H : Type 0} (alerted : List Alert → H → H → Type 0) (all : List Alert) (r : Result (Option (ℕ × CapFault)) Stop) (h k : H) → Alerting alerted all r h k → WatchedRun alerted all (run_of_both r) h k
+both_told alerted all (Ok None) h k a = a
+both_told alerted all (Ok (Some (number, fault))) h k a = a
+both_told alerted all (Err Stops.Read) h k a = a
+both_told alerted all (Err Stops.Write) h k a = a
+both_told alerted all (Err Stops.Memory) h k a = a
 
 -- out of memory before anything is written
 pub memory_wanting : (old : Option (List ℕ)) (whole : Outcome ReplayInput) → RunsOut {T = Unit {0}} (Err Faults.Memory) old old whole
@@ -137,29 +133,17 @@ module _ (read : List (List ℕ) → Result Command TcFault) (s : Setup) (lines 
       by (Faults.Input Inputs.Until) f = absurd f
       by (Faults.Input (Inputs.Script bad)) f = absurd f
 
--- ---- what is asked, in parts
+-- ---- a run
 
-module _ {H : Type 0} (alerted : List Alert → H → H → Type 0) (streams : Option (List Stream)) (script : List Request) (entries : List Entry) (until : Option ℕ) where
-  -- what comes after the records
-  abbrev pub behind_records : List Request
-  behind_records = to_run_end until (requests_of (lines_after (timed_from 0 script) (came_from 0 0 entries)))
+-- a reader's records are asked where no moment is moved
+pub not_moved : {R : Type 0} {remaining : R → Option (List ℕ)} {l : Left R} {entries : List Entry} {last : End} → Comes remaining l entries last → ComesMoved None remaining l entries last
+not_moved {entries = entries} {last = last} comes = record { read = entries; read_last = last; comes = comes; are_moved = unmoved entries last }
 
-  -- before the first record
-  pub begun_both : ((s : H) → alerted [] s s) → (x : Place H) → IsSoundPort x.port → Stands alerted streams x (all_requests script entries until) (before_end (timed_from 0 script) (came_from 0 0 entries) ++ behind_records) x
-  begun_both nothing x sound =
-      let xs = before_end (timed_from 0 script) (came_from 0 0 entries) in
-      let ys = requests_of (lines_after (timed_from 0 script) (came_from 0 0 entries)) in
-      subst (λ rs. Stands alerted streams x (all_requests script entries until) rs x) (append_assoc xs ys (Asks (Clock (run_end until)) ∷ [])) (begun alerted streams nothing (all_requests script entries until) x sound)
+module _ {H : Type 0} (alerted : List Alert → H → H → Type 0) (nothing : (s : H) → alerted [] s s) (until : Option ℕ) (asked : List Request) (x y : Place H) (sound : IsSoundPort x.port) where
+  -- all that is asked is taken, but for the end
+  pub all_taken : TakesRows alerted None asked x y → Stands alerted None x (to_run_end until asked) (Asks (Clock (run_end until)) ∷ []) y
+  all_taken a = a x (to_run_end until asked) (Asks (Clock (run_end until)) ∷ []) (begun alerted None nothing (to_run_end until asked) x sound)
 
-  -- after the last
-  pub records_taken : ((s : H) → alerted [] s s) → (last : End) (lines : List Timed) (broken : Option (ℕ × CapFault)) (x y : Place H) → IsSoundPort x.port → TakesRecords alerted streams entries last (timed_from 0 script) lines (Ok broken) x y
-      → Stands alerted streams x (all_requests script entries until) (to_run_end until (requests_of lines)) y
-  records_taken nothing last lines broken x y sound taken =
-      subst (λ (ls : List Timed). Stands alerted streams x (all_requests script entries until) (to_run_end until (requests_of ls)) y) (sym taken.left) (taken.rows x (all_requests script entries until) behind_records (begun_both nothing x sound))
-
--- no line that is kept is after the last moment that a capture can say
-module _ {A H : Type 0} (alerted : List Alert → H → H → Type 0) (streams : Option (List Stream)) (read : List (List ℕ) → Result Command TcFault) (script : KeptScript A) (cursor : Cursor) (until : Option ℕ) (first : Place H) (all : List Request) (x : Place H) where
-  pub every_line : Stands alerted streams first all (to_run_end until (requests_of (lines_left read script cursor))) x → Stands alerted streams first all (requests_of (lines_by CAPTURE_END (lines_left read script cursor)) ++ Asks (Clock (run_end until)) ∷ []) x
-  every_line st =
-      let every = all_lines read script.octets.items script.lines.items cursor.at cursor.clock script.kept cursor.early in
-      subst (λ (ls : List Timed). Stands alerted streams first all (requests_of ls ++ Asks (Clock (run_end until)) ∷ []) x) (sym every) st
+  -- a call stopped in it
+  pub not_taken : (stop : Stop) → StopsAt alerted None asked (fault_of stop) x y → EndsHere alerted None {T = Unit {0}} (Err (fault_of stop)) x (to_run_end until asked) y
+  not_taken stop a = a x (to_run_end until asked) (Asks (Clock (run_end until)) ∷ []) (begun alerted None nothing (to_run_end until asked) x sound)

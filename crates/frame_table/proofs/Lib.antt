@@ -8,7 +8,7 @@ pub mod LineSteps
 pub mod MappedLaws
 pub mod MappedText
 pub mod OnceLaws
-pub mod RecordWalk
+pub mod TabledLaws
 pub mod RowLaws
 pub mod RowWalkLaws
 pub mod RunLaws

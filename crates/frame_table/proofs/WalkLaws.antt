@@ -101,9 +101,6 @@ module _ {H : Type 0} (alerted : List Alert → H → H → Type 0) (streams : O
     pub stops_write : (left : List Request) (x : Place H) → Stands alerted streams first all left x → EndsHere alerted streams {T = Unit {0}} (Err Faults.Write) first all x
     stops_write left x st = record { out = (_, st.sent); told = alerted_first alerted (alerts_at streams all first) (alerts_at streams left x) first.watch x.watch st.told }
 
-    pub stops_read : (left : List Request) (x : Place H) → Stands alerted streams first all left x → EndsHere alerted streams {T = Unit {0}} (Err Faults.Read) first all x
-    stops_read left x st = record { out = (_, st.sent); told = alerted_first alerted (alerts_at streams all first) (alerts_at streams left x) first.watch x.watch st.told }
-
   module _ (both : (xs ys : List Alert) (s t u : H) → alerted xs s t → alerted ys t u → alerted (xs ++ ys) s u) where
     -- an event is taken, by a call whose result is this
     pub event_carries : {T : Type 0} (r : Result T (Fault BadLine)) (event : Event) (x y : Place H) → Runs r x.got y.got (rows_told streams event x.port x.waiting) → Alerting alerted (request_alerts streams (Asks event) x.port x.waiting) r x.watch y.watch
@@ -120,10 +117,6 @@ module _ {H : Type 0} (alerted : List Alert → H → H → Type 0) (streams : O
         subst (λ (o : Option (List ℕ)). Appends x.got o (rows_text streams (rows_by (tc_request c) x.port x.waiting).0)) (sym got)
         (subst (λ (rows : List FrameRow × List (List Arrival)). Appends x.got x.got (rows_text streams rows.0)) (sym none) (Appends-nil x.got)) in
         goes_on both first all (tc_request c) rest x y st text (alerts_same alerted _ _ x.watch y.watch (tc-alerts streams x.port x.waiting c) told) port (waiting ∙ sym (ap (λ (rows : List FrameRow × List (List Arrival)). rows.1) none)) sound
-
-  -- where a run stood before these requests, it stands before those
-  abbrev pub GoesFrom : (before after : List Request) → Place H → Place H → Type 0
-  GoesFrom before after x y = (first : Place H) (all rest : List Request) → Stands alerted streams first all (before ++ rest) x → Stands alerted streams first all (after ++ rest) y
 
   -- a begun run
   pub begun : ((s : H) → alerted [] s s) → (all : List Request) (x : Place H) → IsSoundPort x.port → Stands alerted streams x all all x

@@ -7,6 +7,7 @@ pub mod Outcome
 pub mod RowText
 pub mod Rows
 pub mod StreamOf
+pub mod TakenRows
 pub mod Told
 pub mod ToldRows
 pub mod Waits

@@ -14,11 +14,13 @@ use Rattle.text.specs.Script.{script_of}
 use Rattle.replay.specs.Lines.{reading_of}
 use Rattle.replay.specs.Merge.{all_requests}
 use Rattle.replay.specs.Outcome.{ReadsAs, end_fault, ended_by, is_too_late}
-use Rattle.replay.specs.RecordsLeft.{EndsSo, found}
+use Rattle.replay.specs.Faults.{fault_of_stop}
+use Rattle.replay.specs.RecordsLeft.{EndsSo}
 use Rattle.replay.specs.Texts.{replay_telling}
 use Rattle.replay.specs.declared.faults.ReplayInput.{ReplayInput}
 use Rattle.replay.specs.declared.faults.ReplayInput.TheVariants as Inputs
 use Rattle.replay.specs.declared.faults.Stop.{Stop}
+use Rattle.replay.specs.declared.faults.Stop.TheVariants as Stops
 use Rattle.script.specs.Requests.{Request}
 use Rattle.script.specs.Setup.{Setup}
 use Rattle.script.specs.declared.faults.BadLine.{BadLine}
@@ -55,26 +57,33 @@ frames_of_capture read s script capture =
 
 -- 2. Calls
 
--- a fault with which the records of a capture end after so many, or that a read failed
-abbrev pub read_stopped : Result (Option (ℕ × CapFault)) Stop → Result (Option (ℕ × CapFault)) (Fault BadLine)
-read_stopped (Ok broken) = Ok broken
-read_stopped (Err stop) = Err Faults.Read
+-- the fault of a table whose run stops so
+abbrev pub fault_of : Stop → Fault BadLine
+fault_of Stops.Read = Faults.Read
+fault_of Stops.Write = Faults.Write
+fault_of Stops.Memory = Faults.Memory
 
-abbrev pub stopped_at : ℕ → CapFault → Result (Option (ℕ × CapFault)) (Fault BadLine)
-stopped_at number fault = read_stopped (found number fault)
+-- why a run stops that a call ends with this fault, which is none of an input
+abbrev pub stop_of : Fault BadLine → Stop
+stop_of (Faults.Input bad) = Stops.Read
+stop_of Faults.Read = Stops.Read
+stop_of Faults.Write = Stops.Write
+stop_of Faults.Memory = Stops.Memory
+
+-- a result, as that of the run of a table
+abbrev pub run_of : {T : Type 0} → Result T Stop → Result T (Fault BadLine)
+run_of (Ok x) = Ok x
+run_of (Err stop) = Err (fault_of stop)
 
 -- how a run ended whose capture ends so
-abbrev pub run_of_both : Result (Option (ℕ × CapFault)) (Fault BadLine) → Result (Unit {0}) (Fault ReplayInput)
+abbrev pub run_of_both : Result (Option (ℕ × CapFault)) Stop → Result (Unit {0}) (Fault ReplayInput)
 run_of_both (Ok broken) = ended_by broken
-run_of_both (Err (Faults.Input bad)) = Err (Faults.Input (Inputs.Script bad))
-run_of_both (Err Faults.Read) = Err Faults.Read
-run_of_both (Err Faults.Write) = Err Faults.Write
-run_of_both (Err Faults.Memory) = Err Faults.Memory
+run_of_both (Err stop) = Err (fault_of_stop stop)
 
 -- The records of a capture have come to this end, and the whole table is written; or a prefix of it, after a fault of a call's.
-pub record RunsBoth (entries : List Entry) (last : End) (r : Result (Option (ℕ × CapFault)) (Fault BadLine)) (old new : Option (List ℕ)) (whole : Outcome BadLine) : Type 0 where
+pub record RunsBoth (entries : List Entry) (last : End) (r : Result (Option (ℕ × CapFault)) Stop) (old new : Option (List ℕ)) (whole : Outcome BadLine) : Type 0 where
   pub ending : IfOk r (EndsSo entries last)
-  pub out : RunsOut r old new whole
+  pub out : RunsOut (run_of r) old new whole
 
 -- The end of a run on a script and a capture: what the writer got, with what no write let out, is what is to be written for the octets of both, or after a
 -- fault of a call's a prefix of it.

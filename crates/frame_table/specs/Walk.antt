@@ -1,15 +1,10 @@
 -- A run that takes requests, one after another: where it stands, and what is still to be written and told.
-use Rattle.std.specs.Prelude.{◌≡◌, ◌++◌, ℕ, List, Option, None, Result, Ok, Err, IfOk, OnOk}
+use Rattle.std.specs.Prelude.{◌++◌, ℕ, List, Option, None, Result, Ok, Err}
 use Rattle.abstract_port.specs.AbstractPort.{AbstractPort}
 use Rattle.abstract_port.specs.Sound.{IsSoundPort}
-use Rattle.capture.specs.Records.{Entry}
-use Rattle.capture.specs.declared.fault.CapFault.{CapFault}
-use Rattle.capture.specs.declared.reader.End.{End}
 use Rattle.job.specs.Outcome.{Outcome, RunsOut}
 use Rattle.job.specs.declared.fault.Fault.{Fault}
 use Rattle.text.specs.Writes.{Sent}
-use Rattle.replay.specs.Merge.{Timed, before_end, came_from, lines_after}
-use Rattle.replay.specs.RecordsLeft.{EndsSo}
 use Rattle.script.specs.Alerts.{Alert, Alerting}
 use Rattle.script.specs.Requests.{Request}
 use Rattle.script.specs.declared.faults.BadLine.{BadLine}
@@ -59,10 +54,3 @@ module _ {H : Type 0} (alerted : List Alert → H → H → Type 0) (streams : O
   -- a call takes these requests: any run that stood at one place goes on at another, whatever comes after them
   abbrev pub Carries : {T : Type 0} → Result T (Fault BadLine) → List Request → Place H → Place H → Type 0
   Carries r requests from to = (first : Place H) (all rest : List Request) → Stands first all (requests ++ rest) from → GoesOn r first all rest to
-
-  -- The records of a capture have come to this end: the fault that is found is the end's, the lines that are left are those after the last record, and what
-  -- comes up to it is taken.
-  pub record TakesRecords (entries : List Entry) (last : End) (all lines : List Timed) (r : Result (Option (ℕ × CapFault)) (Fault BadLine)) (from to : Place H) : Type 0 where
-    pub ending : IfOk r (EndsSo entries last)
-    pub left : OnOk r (lines ≡ lines_after all (came_from 0 0 entries))
-    pub rows : Carries r (before_end all (came_from 0 0 entries)) from to

@@ -14,13 +14,12 @@ mod by_stream;
 mod capture_run;
 mod deadline;
 mod frames_job;
-mod kept_lines;
 pub mod laws;
-mod records;
 mod row_writer;
 mod rows;
 mod streams;
 mod table_run;
+mod tabled;
 
 pub use by_stream::run_frames_by_stream;
 pub use capture_run::run_frames_of_capture;

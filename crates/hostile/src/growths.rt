@@ -8,7 +8,7 @@ use abstract_port::{Answer, Event, Start};
 use capture::{CapFault, CaptureReader};
 use jumping::Jumping;
 use port::{Port, PortFault};
-use replay::ReplayFault;
+use replay::{Outputs, ReplayFault};
 use script::RunFault;
 use std::alloc::Global;
 use std::io;
@@ -197,13 +197,15 @@ pub fn of_replay(given: &Given, alloc: Global, replaying: &Replaying) -> Runs {
     let mut runs = Runs::none();
     for run in 0..100 {
         let heap = heap_of(alloc, run);
-        let mut report = Vec::new(alloc);
-        let mut departures = Vec::new(alloc);
+        let mut outputs = Outputs {
+            report: Vec::new(alloc),
+            departures: Vec::new(alloc),
+        };
         let capture = replaying.capture.as_slice();
-        let result = Replaying::run(given, &heap, capture, &mut departures, &mut report);
+        let result = Replaying::run(given, &heap, capture, &mut outputs);
         let refused = is_refused(&heap, run);
         let told = result.err() == refused.then_some(ReplayFault::Memory);
-        let front = replaying.is_front(&departures, &report, !refused);
+        let front = replaying.is_front(&outputs.departures, &outputs.report, !refused);
         runs.count(refused, told && front);
     }
     runs

@@ -1,7 +1,7 @@
 //! What is fed: jobs over lines, replays, and settings.
 
 use capture::{CAPTURE_END, CaptureWriter};
-use replay::{ReplayFault, Stamp, replay};
+use replay::{Outputs, ReplayFault, Stamp, replay};
 use schedule_check::{CheckSettings, check};
 use script::{RunFault, Settings, Unwatched, run_script};
 use std::alloc::{Allocator, Global};
@@ -136,22 +136,23 @@ pub struct Replayed {
 
 /// A replay of a capture in memory, without script lines.
 pub fn replay_in_memory(alloc: Global, capture: &[u8], settings: Settings) -> Replayed {
-    let mut report = Vec::new(alloc);
-    let mut written = Vec::new(alloc);
+    let mut outputs = Outputs {
+        report: Vec::new(alloc),
+        departures: Vec::new(alloc),
+    };
     let result = replay(
         alloc,
         b"".as_slice(),
         capture,
-        &mut written,
-        &mut report,
+        &mut outputs,
         settings,
         Stamp::Start,
         &mut Unwatched,
     );
     Replayed {
         result,
-        report,
-        capture: written,
+        report: outputs.report,
+        capture: outputs.departures,
     }
 }
 
@@ -192,19 +193,17 @@ impl Replaying {
     }
 
     /// Does it without script lines, from any reader to any writers.
-    pub fn run<A: Allocator, R: Read + Drop, W: PutLine, V: PutLine>(
+    pub fn run<A: Allocator, R: Read + Drop, V: PutLine, W: PutLine>(
         given: &Given,
         alloc: A,
         capture: R,
-        departures: &mut W,
-        report: &mut V,
+        outputs: &mut Outputs<V, W>,
     ) -> Result<(), ReplayFault> {
         replay(
             alloc,
             b"".as_slice(),
             capture,
-            departures,
-            report,
+            outputs,
             given.to_the_end,
             Stamp::Start,
             &mut Unwatched,

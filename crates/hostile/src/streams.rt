@@ -4,7 +4,7 @@
 
 use super::rows::{Given, Job, Replaying, Runs, replay_in_memory};
 use capture::{CapFault, CaptureReader};
-use replay::ReplayFault;
+use replay::{Outputs, ReplayFault};
 use script::RunFault;
 use std::alloc::Global;
 use test_support::test_streams::{Pieces, Tally, Turn, TurningReader, TurningWriter, nth_turn};
@@ -132,11 +132,14 @@ fn read_of_capture(
 ) -> (bool, bool) {
     let (at, turn) = nth_turn(run);
     let tally = Tally::default();
-    let mut report = Vec::new(alloc);
-    let mut departures = Vec::new(alloc);
+    let mut outputs = Outputs {
+        report: Vec::new(alloc),
+        departures: Vec::new(alloc),
+    };
     let capture = replaying.capture.as_slice();
     let reader = TurningReader::new(capture, piece, at, turn, &tally);
-    let result = Replaying::run(given, alloc, reader, &mut departures, &mut report);
+    let result = Replaying::run(given, alloc, reader, &mut outputs);
+    let Outputs { report, departures } = outputs;
     let met = tally.calls.get() > at;
     let last = tally.calls.get().saturating_sub(at) == 1;
     let is_right = if !met || turn == Turn::OneOctet {
@@ -190,10 +193,13 @@ fn write_of_replay(
     } else {
         (at, u32::MAX)
     };
-    let mut departures = TurningWriter::new(alloc, WHOLE, of_departures, turn);
-    let mut report = TurningWriter::new(alloc, WHOLE, of_lines, turn);
+    let mut outputs = Outputs {
+        report: TurningWriter::new(alloc, WHOLE, of_lines, turn),
+        departures: TurningWriter::new(alloc, WHOLE, of_departures, turn),
+    };
     let capture = replaying.capture.as_slice();
-    let result = Replaying::run(given, alloc, capture, &mut departures, &mut report);
+    let result = Replaying::run(given, alloc, capture, &mut outputs);
+    let Outputs { report, departures } = outputs;
     let calls = if of_report {
         report.calls
     } else {

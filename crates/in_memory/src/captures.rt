@@ -15,7 +15,7 @@ ghost use Rattle.port_text.specs.declared.tc_reader.fault.TcFault.{TcFault};
 use crate::jobs::put_front;
 use crate::values::{PortValues, settings_at};
 use job::say_fault;
-use replay::{ReplayFault, Stamp, replay};
+use replay::{Outputs, ReplayFault, Stamp, replay};
 use script::{BadValue, Unwatched, say_value};
 use std::alloc::Allocator;
 
@@ -170,14 +170,15 @@ pub fn replay_octets<A: Allocator>(
         Ok(settings) => settings,
         Err(value) => return refuse_replay(alloc, value, report, departures, fault),
     };
-    let mut told = Vec::new(alloc);
-    let mut left = Vec::new(alloc);
+    let mut written = Outputs {
+        report: Vec::new(alloc),
+        departures: Vec::new(alloc),
+    };
     let run = replay(
         alloc,
         script,
         capture,
-        &mut left,
-        &mut told,
+        &mut written,
         settings,
         stamp,
         &mut Unwatched,
@@ -185,8 +186,8 @@ pub fn replay_octets<A: Allocator>(
     end_replay(
         alloc,
         run,
-        told.as_slice(),
-        left.as_slice(),
+        written.report.as_slice(),
+        written.departures.as_slice(),
         report,
         departures,
         fault,

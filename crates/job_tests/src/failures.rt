@@ -4,7 +4,7 @@ use crate::replays::{
     END, REPORT, Replayed, TWO_CAPTURED, is_front_and, replay_of, settings, three_captured,
 };
 use linked_list_allocator::LocalHeap;
-use replay::{ReplayFault, Stamp, replay};
+use replay::{Outputs, ReplayFault, Stamp, replay};
 use script::{Settings, Unwatched};
 use std::alloc::Global;
 use std::test::Fail;
@@ -147,10 +147,9 @@ fn narrow(alloc: Global, room: usize, fails: bool, recovers: bool) -> Narrow {
 }
 
 /// What a replay of the two frames ends with, whose output capture and report go to these writers.
-fn replay_to<W: PutLine, V: PutLine>(
+fn replay_to<V: PutLine, W: PutLine>(
     alloc: Global,
-    written: &mut W,
-    report: &mut V,
+    outputs: &mut Outputs<V, W>,
     settings: Settings,
 ) -> Result<(), ReplayFault> {
     let (script, capture) = (b"".as_slice(), TWO_CAPTURED.as_slice());
@@ -158,8 +157,7 @@ fn replay_to<W: PutLine, V: PutLine>(
         alloc,
         script,
         capture,
-        written,
-        report,
+        outputs,
         settings,
         Stamp::Start,
         &mut Unwatched,
@@ -172,9 +170,15 @@ fn is_written(alloc: Global, room: usize, recovers: bool) -> bool {
     let Some(settings) = settings(END) else {
         return false;
     };
-    let mut report = narrow(alloc, room, recovers, recovers);
-    let mut written = narrow(alloc, room, recovers, recovers);
-    let result = replay_to(alloc, &mut written, &mut report, settings);
+    let mut outputs = Outputs {
+        report: narrow(alloc, room, recovers, recovers),
+        departures: narrow(alloc, room, recovers, recovers),
+    };
+    let result = replay_to(alloc, &mut outputs, settings);
+    let Outputs {
+        report,
+        departures: written,
+    } = outputs;
     let fronts = REPORT.starts_with(&report.got) && BOTH_LEFT.starts_with(&written.got);
     let whole = report.got.len() >= REPORT.len() && written.got.len() >= BOTH_LEFT.len();
     let fault = (room < REPORT.len()).then_some(ReplayFault::Write);

@@ -2,7 +2,7 @@
 
 use abstract_port::{Change, Command, Dropped};
 use job::{Ended, say_fault};
-use replay::{ReplayFault, ReplayInput, Stamp, replay};
+use replay::{Outputs, ReplayFault, ReplayInput, Stamp, replay};
 use script::{Basis, Failure, Missed, Settings, Unwatched, Watch};
 use std::alloc::{Allocator, Global};
 use std::io::{self, Read};
@@ -62,22 +62,23 @@ pub fn replay_of<A: Allocator, R: Read + Drop, S: Read + Drop>(
     capture: S,
     settings: Settings,
 ) -> Replayed {
-    let mut report = Vec::new(alloc);
-    let mut written = Vec::new(alloc);
+    let mut outputs = Outputs {
+        report: Vec::new(alloc),
+        departures: Vec::new(alloc),
+    };
     let result = replay(
         memory,
         script,
         capture,
-        &mut written,
-        &mut report,
+        &mut outputs,
         settings,
         Stamp::Start,
         &mut Unwatched,
     );
     Replayed {
         result,
-        report,
-        capture: written,
+        report: outputs.report,
+        capture: outputs.departures,
     }
 }
 
@@ -216,14 +217,15 @@ fn seen_of_three(alloc: Global) -> io::Result<Option<(u32, u32, u128)>> {
         records: 0,
         moment: 0,
     };
-    let mut report = Vec::new(alloc);
-    let mut written = Vec::new(alloc);
+    let mut outputs = Outputs {
+        report: Vec::new(alloc),
+        departures: Vec::new(alloc),
+    };
     let result = replay(
         alloc,
         b"".as_slice(),
         capture.as_slice(),
-        &mut written,
-        &mut report,
+        &mut outputs,
         settings,
         Stamp::Start,
         &mut seen,

@@ -16,9 +16,9 @@ use Rattle.summary.specs.Observed.{class_at}
 use Rattle.job.specs.declared.fault.Fault.TheVariants as Faults
 use Rattle.replay.specs.declared.faults.ReplayInput.TheVariants as Inputs
 use Rattle.replay.specs.declared.faults.Stop.TheVariants as Stops
-use Rattle.replay.proofs.RunLaws.{after, answers_exit, answers_then, later_port, later_seen, parts}
-use Rattle.replay.proofs.SeenLaws.{seen_of}
-use Rattle.replay.proofs.Sends.{both_exit, both_last, both_more, both_none, both_then}
+use Rattle.replay.specs.RunLaws.{after, answers_exit, answers_then, later_port, later_seen, parts}
+use Rattle.replay.specs.SeenLaws.{seen_of}
+use Rattle.replay.specs.Sends.{both_exit, both_last, both_more, both_none, both_then}
 
 -- ---- what is reported, and then what is left
 

@@ -7,9 +7,7 @@ mod QueuedLaws
 pub mod RecordLaws
 mod ReplayEndLaws
 pub mod ReplayLaws
-pub mod RunLaws
-pub mod SeenLaws
-pub mod Sends
 pub mod SeparatedLaws
 pub mod StartLaws
+pub mod TakerLaws
 pub mod TellLaws

@@ -1,11 +1,10 @@
 -- The records that come from a reader, one after another.
 use Rattle.std.specs.Prelude.{IfOk, IfSome, MatchOption, max}
 use Rattle.std.proofs.Common.{◌≡◌, ◌≢◌, ◌⊎◌, ◌+◌, ◌++◌, ℕ, List, [], ◌∷◌, length, Option, Some, None, Result, Ok, Err, inl, inr, refl, sym, ap, ◌∙◌, subst, append_assoc, append-nil}
-use Rattle.std.specs.Io.KnownBytes.{Keeps as Holds}
 use Rattle.std.proofs.Math.ListN.{get_or}
 use Rattle.std.proofs.Math.Seq.{get_or-append_seam}
 use Rattle.std.proofs.lemmas.List.{length-append}
-use Rattle.replay.specs.Words.{Left, Next, left, AreRecords, frame_of, Entry, CapFault, Format, End, Whole, Broken, Arrive, kept, Origin, Request, Asks, Came, Timed, before_end, came_from, lines_after, lines_by, lines_past, requests_of, Got, kept_in, Comes, ComesMoved, EndsSo, found, RunsRecords, Answers, Keeps, State, IsSoundPort, Shift, Stop, moved, moved_moment, moved_reading}
+use Rattle.replay.specs.Words.{Left, Next, left, AreRecords, frame_of, Entry, CapFault, Format, End, Whole, Broken, Arrive, kept, Request, Asks, Came, Timed, before_end, came_from, lines_after, lines_by, lines_past, requests_of, kept_in, Comes, ComesMoved, EndsSo, found, Shift, Stop, moved, moved_moment, moved_reading}
 use Rattle.capture.specs.CaptureReader.{IsWanting, ReadsNext, again, octets_left, record_shown, shown}
 use Rattle.capture.specs.Records.{entry_at, fault_at, rest_after}
 use Rattle.capture.specs.declared.format.RecordHeader.{RecordHeader}
@@ -16,8 +15,6 @@ use Rattle.replay.specs.Outputs.{no_entry}
 use Rattle.replay.specs.RecordsLeft.{ending}
 use Rattle.replay.specs.Shifts.{with_moved}
 use Rattle.replay.specs.declared.faults.Stop.TheVariants as Stops
-use Rattle.replay.proofs.Sends.{never}
-use Rattle.replay.proofs.RunLaws.{Done, done_all, done_exit, done_kept, done_more, done_stop}
 
 known_at : (P : List ℕ → Type 0) (known : Option (List ℕ)) (octets : List ℕ) → known ≡ Some octets → IfSome known P → P octets
 known_at P known octets e p = let Q : Option (List ℕ) → Type 0 = λ o. IfSome o P in subst Q e p
@@ -43,7 +40,7 @@ record-next format number octets [] (Broken f) are e = absurd (let both = sym ar
 record-next format number octets (x ∷ es) last are e = (es, ap (λ (y : Entry). y ∷ es) are.1, are.2)
 
 -- a read failed, or another fault ends the records
-found_by : (number : ℕ) (f : CapFault) → ((f ≡ Read) × (found number f ≡ Err Stops.Read)) ⊎ ((f ≢ Read) × (found number f ≡ Ok (Some (number, f))))
+pub found_by : (number : ℕ) (f : CapFault) → ((f ≡ Read) × (found number f ≡ Err Stops.Read)) ⊎ ((f ≢ Read) × (found number f ≡ Ok (Some (number, f))))
 found_by number Read = inl (refl, refl)
 found_by number ShortHeader = inr (λ e. cc, refl)
 found_by number BadMagic = inr (λ e. cc, refl)
@@ -153,10 +150,10 @@ module _ {P : List Request → Type 0} {C : List Entry → Type 0} {entries : Li
     asked = subst (λ (xs : List Entry). P (before_end lines (came_from latest number xs))) none t.asked;
   }
 
-  whole_end : (last : End) → t.rest ≡ [] → last ≡ Whole → AreOver P entries last all lines None
+  pub whole_end : (last : End) → t.rest ≡ [] → last ≡ Whole → AreOver P entries last all lines None
   whole_end last none is = are_over last None none (sym (ap (λ (e : End). ending entries e) is))
 
-  broken_end : (last : End) (f : CapFault) → t.rest ≡ [] → last ≡ Broken f → AreOver P entries last all lines (Some (number, f))
+  pub broken_end : (last : End) (f : CapFault) → t.rest ≡ [] → last ≡ Broken f → AreOver P entries last all lines (Some (number, f))
   broken_end last f none is =
       let counted = ap (λ (xs : List Entry). length xs) (t.split ∙ ap (λ (xs : List Entry). t.front ++ xs) none ∙ append-nil t.front) ∙ t.count in
       are_over last (Some (number, f)) none (sym (ap (λ (e : End). ending entries e) is ∙ ap (λ (k : ℕ). Some (k, f)) counted))
@@ -175,13 +172,13 @@ module _ {P : List Request → Type 0} {C : List Entry → Type 0} {entries : Li
     abbrev behind_of : List Request
     behind_of = before_end (lines_past m lines) (came_from m (number + 1) next.0)
 
-    asked_of : P (requests_of (lines_by m lines) ++ (its_of ++ behind_of))
+    pub asked_of : P (requests_of (lines_by m lines) ++ (its_of ++ behind_of))
     asked_of = subst P (ap (λ (cs : List Came). before_end lines cs) here) t.asked
 
-    record_of : kept_in entries number ≡ kept e.original e.octets
+    pub record_of : kept_in entries number ≡ kept e.original e.octets
     record_of = kept-at entries t.front next.0 e number (t.split ∙ ap (λ (xs : List Entry). t.front ++ xs) next.1) t.count
 
-    next_of : {Q : List Request → Type 0} {lines' : List Timed} → lines' ≡ lines_past m lines → Q behind_of → TakenOf Q D entries m (number + 1) all lines'
+    pub next_of : {Q : List Request → Type 0} {lines' : List Timed} → lines' ≡ lines_past m lines → Q behind_of → TakenOf Q D entries m (number + 1) all lines'
     next_of {Q} past q = record {
       front = t.front ++ e ∷ [];
       rest = next.0;
@@ -284,100 +281,8 @@ pub unmoved_reading : (records : Result (List Entry × End) CapFault) → moved_
 unmoved_reading (Ok records) = ap (λ (x : List Entry × End). Ok x) (unmoved records.0 records.1)
 unmoved_reading (Err fault) = refl
 
--- ---- the run so far
+-- ---- what is asked
 
 -- all that is asked up to the last record
 abbrev pub asked : List Timed → List Entry → List Request
 asked all es = before_end all (came_from 0 0 es)
-
--- What is asked up to the last record is answered, but for this.
-abbrev pub AreAnswered : Origin → List Timed → State → State → List Request → Type 0
-AreAnswered es all s t rs = Keeps es s → Done es s t rs (asked all es.entries)
-
--- what was written is let out
-pub let_out : {C : List Entry → Type 0} {es : Origin} {latest number : ℕ} {all lines : List Timed} {s t : State} {h : Got}
-    → TakenOf (AreAnswered es all s t) C es.entries latest number all lines → Holds t.got.report h.report → Holds t.got.departures h.departures
-    → TakenOf (AreAnswered es all s (record t { got = h })) C es.entries latest number all lines
-let_out {h = h} st report departures = taken_map st (λ rs run k. done_kept h (run k) report departures)
-
--- what is answered, whatever the call answers
-same_ok : {T U : Type 0} {x : T} (y : U) (es : Origin) (rs : List Request) (s t : State) → Answers {T = T} es (Ok x) rs s t → Answers {T = U} es (Ok y) rs s t
-same_ok {T} {U} {x} y es rs s t a = record { port = a.port; keeps = a.keeps; seen = a.seen; out = record { left = a.out.left; sent = a.out.sent; all = a.out.all } }
-
-module _ {R : Type 0} {shift : Option Shift} {remaining : R → Option (List ℕ)} {es : Origin} {last : End} {reader : Left R} {latest number : ℕ} {all lines : List Timed} {s t : State} (sound : IsSoundPort s.port)
-    (st : TakenMoved (AreAnswered es all s t) shift remaining es.entries last reader latest number all lines) where
-  -- a call failed in what comes up to the last record
-  fails : {y : Stop} {r : Result (Option (ℕ × CapFault)) Stop} {u : State} {lines' : List Timed} → r ≡ Err y → (Keeps es s → Answers es r (asked all es.entries) s u) → RunsRecords es last all lines' s u r
-  fails failed a = record {
-    ending = subst (λ (q : Result (Option (ℕ × CapFault)) Stop). IfOk q (EndsSo es.entries last)) (sym failed) tt;
-    left = never _ failed;
-    answers = a;
-  }
-
-  -- a call failed before the next record
-  pub stopped : {y : Stop} {r : Result (Option (ℕ × CapFault)) Stop} → r ≡ Err y → RunsRecords es last all lines s t r
-  stopped {r = r} failed = fails failed (λ k. done_stop sound r failed (st.asked k))
-
-  ended : (o : Option (ℕ × CapFault)) → AreOver (AreAnswered es all s t) es.entries last all lines o → RunsRecords es last all lines s t (Ok o)
-  ended o w = record { ending = w.ending; left = w.left; answers = λ k. same_ok o es (asked all es.entries) s t (done_all sound (w.asked k)) }
-
-  module _ (after : Left R) (begun : reader.ended ≡ None) where
-    -- the end was answered
-    pub over_well : Next remaining reader (Ok None) after → RunsRecords es last all lines s t (Ok None)
-    over_well p = let n = moved_end shift remaining reader after st.rest last begun st.comes p in ended None (whole_end st last n.0 n.1)
-
-    -- a fault was answered
-    pub over : (f : CapFault) → Next remaining reader (Err f) after → RunsRecords es last all lines s t (found number f)
-    over f p =
-        let Q : Result (Option (ℕ × CapFault)) Stop → Type 0 = λ r. RunsRecords es last all lines s t r in
-        elim (found_by number f) [
-          | inl w ↦ subst Q (sym w.1) (stopped refl)
-          | inr w ↦
-              let n = moved_fault shift remaining reader after st.rest last begun st.comes f p w.0 in
-              subst Q (sym w.1) (ended (Some (number, f)) (broken_end st last f n.0 n.1))
-        ]
-
-    -- a record can't be moved
-    pub over_shift : (e : Entry) → Next remaining reader (Ok (Some e)) after → moved_moment shift e.moment ≡ None → RunsRecords es last all lines s t (Ok (Some (number, BadShift)))
-    over_shift e p is = let n = moved_none shift remaining reader after st.rest last begun st.comes e p is in ended (Some (number, BadShift)) (broken_end st last BadShift n.0 n.1)
-
-    -- a record is taken, moved, after the lines up to its moment
-    module _ (e : Entry) (p : Next remaining reader (Ok (Some e)) after) (moment : ℕ) (shifts : moved_moment shift e.moment ≡ Some moment) {m : ℕ} (is : m ≡ max latest moment) where
-      rest_of : (rest : List Entry) × (st.rest ≡ record e { moment = moment } ∷ rest) × ComesMoved shift remaining after rest last
-      rest_of = moved_record shift remaining reader after st.rest last begun st.comes e moment p shifts
-
-      abbrev theirs : List Request
-      theirs = Asks (Clock m) ∷ Asks (Arrive (frame_of e number)) ∷ []
-
-      abbrev beyond : List Request
-      beyond = before_end (lines_past m lines) (came_from m (number + 1) rest_of.0)
-
-      ready : AreAnswered es all s t (requests_of (lines_by m lines) ++ (theirs ++ beyond))
-      ready = asked_of st (record e { moment = moment }) rest_of is
-
-      its_kept : kept_in es.entries number ≡ kept e.original e.octets
-      its_kept = record_of st (record e { moment = moment }) rest_of is
-
-      lines_done : {T : Type 0} {x : T} {u : State} → (Keeps es t → Answers {T = T} es (Ok x) (requests_of (lines_by m lines)) t u) → AreAnswered es all s u (theirs ++ beyond)
-      lines_done {u = u} a k = let d = ready k in done_more sound u (requests_of (lines_by m lines)) _ d refl (a d.answers.keeps)
-
-      -- both are answered
-      pub stands_next : {T U : Type 0} {x : T} {y : U} {u v : State} {lines' : List Timed} → lines' ≡ lines_past m lines
-          → (Keeps es t → Answers {T = T} es (Ok x) (requests_of (lines_by m lines)) t u)
-          → (kept_in es.entries number ≡ kept e.original e.octets → Keeps es u → Answers {T = U} es (Ok y) theirs u v)
-          → TakenMoved (AreAnswered es all s v) shift remaining es.entries last after m (number + 1) all lines'
-      stands_next {v = v} past a b = next_of st (record e { moment = moment }) rest_of is past (λ k.
-          let d = lines_done a k in
-          done_more sound v theirs _ d refl (b its_kept d.answers.keeps))
-
-      -- the lines failed
-      pub lines_fail : {U : Type 0} {y : Stop} {r : Result (Option (ℕ × CapFault)) Stop} {u : State} {lines' : List Timed} → r ≡ Err y → (Keeps es t → Answers {T = U} es (Err y) (requests_of (lines_by m lines)) t u) → RunsRecords es last all lines' s u r
-      lines_fail {r = r} {u = u} failed a = fails failed (λ k. let d = ready k in done_exit sound r u (requests_of (lines_by m lines)) _ failed d refl (a d.answers.keeps))
-
-      -- the record failed
-      pub record_fails : {U V : Type 0} {x : V} {y : Stop} {r : Result (Option (ℕ × CapFault)) Stop} {u v : State} {lines' : List Timed} → r ≡ Err y → (Keeps es t → Answers {T = V} es (Ok x) (requests_of (lines_by m lines)) t u)
-          → (kept_in es.entries number ≡ kept e.original e.octets → Keeps es u → Answers {T = U} es (Err y) theirs u v)
-          → RunsRecords es last all lines' s v r
-      record_fails {r = r} {v = v} failed a b = fails failed (λ k.
-          let d = lines_done a k in
-          done_exit sound r v theirs _ failed d refl (b its_kept d.answers.keeps))

@@ -8,7 +8,7 @@ use Rattle.replay.specs.Outcome.{outcome_read, outcome_said, outcome_whole}
 use Rattle.job.specs.declared.fault.Fault.TheVariants as Faults
 use Rattle.replay.specs.declared.faults.ReplayInput.TheVariants as Inputs
 use Rattle.replay.proofs.EndLaws.{refused_header, refused_script, refused_so, with_header}
-use Rattle.replay.proofs.Sends.{both_none}
+use Rattle.replay.specs.Sends.{both_none}
 
 pub when_known : {X : Type 0} (o : Option X) (P : X → Type 0) → ((x : X) → o ≡ Some x → P x) → IfSome o P
 when_known None P f = tt

@@ -15,9 +15,9 @@ use Rattle.abstract_port.specs.declared.Refused.{Refused}
 use Rattle.abstract_port.proofs.RunLaws.{settled-current}
 use Rattle.script.specs.Responses.{lines_of}
 use Rattle.replay.proofs.ArrivalLaws.{one_answer}
-use Rattle.replay.proofs.Sends.{never, on_ok_map, report_short, report_whole}
+use Rattle.replay.specs.Sends.{never, on_ok_map, report_short, report_whole}
 use Rattle.replay.proofs.StartLaws.{still_keeps, still_together}
-use Rattle.replay.proofs.SeenLaws.{noted-one, seen-one, seen-told}
+use Rattle.replay.specs.SeenLaws.{noted-one, seen-one, seen-told}
 
 -- an event with these answers
 pub answers_one : {T : Type 0} (r : Result T Stop) (es : Origin) (event : Event) (s t : State) (told : List Answer) (q : AbstractPort) → answers_to event s.port ≡ (told, q)

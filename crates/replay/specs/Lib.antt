@@ -1,3 +1,4 @@
+pub mod Beside
 pub mod Faults
 pub mod KeptScript
 pub mod Kinds
@@ -8,14 +9,17 @@ pub mod Outcome
 pub mod Outputs
 pub mod Queued
 pub mod RecordsLeft
-pub mod RecordsRun
 pub mod ReplayEnd
 pub mod RunEnd
+pub mod RunLaws
 pub mod RunState
+pub mod SeenLaws
+pub mod Sends
 pub mod Separated
 pub mod Shifts
 pub mod Sources
 pub mod Stamps
+pub mod Taker
 pub mod Texts
 pub mod Timing
 pub mod WholeScript

@@ -12,6 +12,7 @@ use Rattle.summary.specs.Observed.{Observed}
 use Rattle.summary.specs.Wanted.{noted_after, noted_all}
 use Rattle.replay.specs.Outputs.{Got, Origin, PutsBoth, kept_in, output}
 use Rattle.replay.specs.declared.faults.Stop.{Stop}
+use Rattle.replay.specs.declared.outputs.Outputs.{Outputs}
 use Rattle.replay.specs.declared.sender.Sending.{Sending}
 use Rattle.replay.specs.declared.stamps.Stamping.{Stamping}
 
@@ -26,6 +27,10 @@ pub record State : Type 0 where
 -- the state of a replay that runs
 abbrev pub state : {A : Type 0} → Sending A → Option (List ℕ) → Option (List ℕ) → State
 state s report departures = record { port = s.port.port; store = s.store; seen = s.summary; stamping = s.leaving.stamping; got = record { report = report; departures = departures } }
+
+-- the same, by its outputs
+abbrev pub state_of : {A V W : Type 0} → (V → Option (List ℕ)) → (W → Option (List ℕ)) → Sending A → Outputs V W → State
+state_of reported captured s o = state s (reported o.report) (captured o.departures)
 
 -- the store beside the queues: as many frames in each class, and the same room
 pub record IsTogether (s : State) : Type 0 where

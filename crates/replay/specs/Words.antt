@@ -46,9 +46,8 @@ pub use Rattle.replay.specs.Merge.{Came, Timed, all_requests, before_end, came_f
 pub use Rattle.replay.specs.Outcome.{AppendsBoth, Ends, IsOpenFault, Outcome, ReadsAs, end_fault, end_of, ended_by, header, is_too_late, open_fault, outcome_of, refused, timed_outcome, told_to_end}
 pub use Rattle.replay.specs.Outputs.{Got, Origin, Output, PutsBoth, SentBoth, answer_record, got, joined, kept_in, nothing, output, response_record, start_record}
 pub use Rattle.replay.specs.RecordsLeft.{Comes, ComesMoved, EndsSo, found}
-pub use Rattle.replay.specs.RecordsRun.{RunsRecords}
 pub use Rattle.replay.specs.RunEnd.{counted_to, last_end, rest_moment, run_end}
-pub use Rattle.replay.specs.RunState.{Answers, AnswersStarts, IsTogether, Keeps, State, first_kept, state}
+pub use Rattle.replay.specs.RunState.{Answers, AnswersStarts, IsTogether, Keeps, State, first_kept, state, state_of}
 pub use Rattle.replay.specs.Separated.{IsSeparatedBy}
 pub use Rattle.replay.specs.Sources.{MergeLaw}
 pub use Rattle.replay.specs.Shifts.{moved, moved_moment, moved_reading}

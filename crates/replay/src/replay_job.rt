@@ -7,6 +7,7 @@ ghost use Rattle.job.specs.declared.fault.Fault.TheVariants as Faults;
 ghost use Rattle.replay.specs.Words.{IsReplayEnding, got};
 
 use crate::faults::ReplayFault;
+use crate::outputs::Outputs;
 use crate::replay_run::replay_timed;
 use crate::timing::Timing;
 use job::{Ended, Errors, say_run};
@@ -53,15 +54,6 @@ pub struct Inputs<R: Read + Drop, S: Read + Drop> {
     pub capture: S,
 }
 
-/// Where a replay writes: both outputs go through buffers.
-#[derive(Drop)]
-pub struct Outputs<W: Write + Drop, V: Write + Drop, A: Allocator, B: Allocator> {
-    /// The report.
-    pub report: BufWriter<W, A>,
-    /// The capture of the frames that leave.
-    pub departures: BufWriter<V, B>,
-}
-
 /// Runs a script and a capture with settings, the text of a fault on `errors`; and gives the writers of the report and
 /// of the output capture back. What was written is let out before a fault is reported, the report first; after a
 /// failed write no other is tried.
@@ -80,7 +72,7 @@ pub fn answer_replay<
     settings: Settings,
     timing: Timing,
     inputs: Inputs<R, S>,
-    mut outputs: Outputs<W, V, B, C>,
+    mut outputs: Outputs<BufWriter<W, B>, BufWriter<V, C>>,
     errors: &mut E,
     watch: &mut P,
 ) -> (Ended, W, V)
@@ -95,8 +87,7 @@ pub fn answer_replay<
         alloc,
         inputs.script,
         inputs.capture,
-        &mut outputs.departures,
-        &mut outputs.report,
+        &mut outputs,
         settings,
         timing,
         watch,

@@ -1,17 +1,16 @@
 //! Runs a script and a capture.
 
 ghost use Rattle.std.specs.Prelude.{◌≡◌, ◌≤◌, ℕ, [], List, None, Option, Result, IfOk, IfErr, IfSome, Err, false, true, length};
-ghost use Rattle.replay.specs.Words.{CAPTURE_END, run_end, new_port, IsSoundPort, Command, IsNewReader, left, Entry, CapFault, End, IsReader, TcFault, lines_left, new_store, kept_requests, merged, came_from, timed_from, requests_of, Ends, IsOpenFault, ended_by, ReadsAs, end_fault, header, is_too_late, open_fault, outcome_of, stamping_at, timed_outcome, told_to_end, Origin, PutsBoth, got, ComesMoved, IsTogether, Keeps, state};
+ghost use Rattle.replay.specs.Words.{CAPTURE_END, run_end, new_port, IsSoundPort, Command, IsNewReader, left, Entry, CapFault, End, IsReader, TcFault, new_store, kept_requests, merged, came_from, timed_from, Ends, IsOpenFault, ended_by, ReadsAs, end_fault, header, is_too_late, open_fault, outcome_of, stamping_at, timed_outcome, told_to_end, Origin, PutsBoth, got, ComesMoved, IsTogether, Keeps, state_of};
 ghost use Rattle.job.specs.declared.fault.Fault.TheVariants as Faults;
 ghost use Rattle.replay.specs.declared.faults.ReplayInput.TheVariants as Inputs;
 
-use crate::cursor::Cursor;
+use crate::both_walk::walk_both;
 use crate::end_lines::put_end_of;
 use crate::faults::{ReplayFault, ReplayInput, Stop};
 use crate::kept_script::KeptScript;
-use crate::lines::run_lines;
+use crate::outputs::Outputs;
 use crate::queued::QueuedLine;
-use crate::records::run_records;
 use crate::script_reader::read_script;
 use crate::sender::{Leaving, Sending, put_clock};
 use crate::shifts::Shift;
@@ -50,62 +49,26 @@ pub fn run_end(until: Option<u128>) -> u128
 }
 
 /// Runs on from where both inputs have ended, and writes how many frames are left, and the summary where one is wanted.
-fn run_on<A: Allocator, W: PutLine, V: PutLine, P: Watch>(
+fn run_on<A: Allocator, V: PutLine, W: PutLine, P: Watch>(
     sending: &mut Sending<A>,
     until: Option<u128>,
-    departures: &mut W,
-    report: &mut V,
+    outputs: &mut Outputs<V, W>,
     watch: &mut P,
 ) -> Result<(), Stop>
     requires until { is_too_late until ≡ false }
-    requires together { IsTogether
-        (state sending.old (V.contents report.old) (W.contents departures.old)) }
+    requires together { IsTogether (state_of V.contents W.contents sending.old outputs.old) }
     ensures { (origin : Origin) →
-        Keeps origin (state sending.old (V.contents report.old) (W.contents departures.old)) →
-        PutsBoth result (got (V.contents report.old) (W.contents departures.old))
-        (got (V.contents report.new) (W.contents departures.new))
+        Keeps origin (state_of V.contents W.contents sending.old outputs.old) →
+        PutsBoth result (got (V.contents outputs.old.report) (W.contents outputs.old.departures))
+        (got (V.contents outputs.new.report) (W.contents outputs.new.departures))
         (told_to_end origin [] until sending.old.port.port sending.old.summary) }
 {
     let from = sending.port.now();
     sending.leaving.last = from;
     let upto = run_end(until);
-    put_clock(sending, upto, departures, report)?;
-    put_end_of(sending, until, report, watch)?;
+    put_clock(sending, upto, &mut outputs.departures, &mut outputs.report)?;
+    put_end_of(sending, until, &mut outputs.report, watch)?;
     Ok(())
-}
-
-/// Answers the lines that are left, and runs on. Who watches is called for each line that begins with `tc` and changes
-/// nothing.
-fn finish<A: Allocator, B: Allocator, W: PutLine, V: PutLine, P: Watch>(
-    sending: &mut Sending<A>,
-    script: &KeptScript<B>,
-    cursor: &mut Cursor,
-    until: Option<u128>,
-    departures: &mut W,
-    report: &mut V,
-    watch: &mut P,
-) -> Result<(), Stop>
-    requires until { is_too_late until ≡ false }
-    requires together { IsTogether
-        (state sending.old (V.contents report.old) (W.contents departures.old)) }
-    ensures { (read : List (List ℕ) → Result Command TcFault) → IsReader read → (origin : Origin) →
-        Keeps origin (state sending.old (V.contents report.old) (W.contents departures.old)) →
-        PutsBoth result (got (V.contents report.old) (W.contents departures.old))
-        (got (V.contents report.new) (W.contents departures.new))
-        (told_to_end origin
-        (requests_of
-        (lines_left read script.now cursor.old)) until sending.old.port.port sending.old.summary) }
-{
-    run_lines(
-        sending,
-        script,
-        cursor,
-        CAPTURE_END,
-        departures,
-        report,
-        watch,
-    )?;
-    run_on(sending, until, departures, report, watch)
 }
 
 /// How a run ends whose capture ends with this fault after so many records, if it has one.
@@ -118,28 +81,26 @@ pub fn ended_by(broken: Option<(u32, CapFault)>) -> Result<(), ReplayFault>
     }
 }
 
-/// Runs the records and the lines, to the end of both.
-fn run<A: Allocator + Clone, B: Allocator, C: Allocator, R: Read, W: PutLine, V: PutLine, P: Watch>(
+/// Runs the records and the lines, to the end of both, and on.
+fn run<A: Allocator + Clone, B: Allocator, C: Allocator, R: Read, V: PutLine, W: PutLine, P: Watch>(
     sending: &mut Sending<A>,
     script: &KeptScript<B>,
     until: Option<u128>,
     records: &mut CaptureReader<R, C>,
     shift: Option<Shift>,
-    departures: &mut W,
-    report: &mut V,
+    outputs: &mut Outputs<V, W>,
     watch: &mut P,
 ) -> Result<(), ReplayFault>
     requires until { is_too_late until ≡ false }
-    requires together { IsTogether
-        (state sending.old (V.contents report.old) (W.contents departures.old)) }
+    requires together { IsTogether (state_of V.contents W.contents sending.old outputs.old) }
     requires begun { (left records.old).ended ≡ None }
     requires first { (left records.old).number ≡ 0 }
     ensures { (read : List (List ℕ) → Result Command TcFault) → IsReader read →
         (origin : Origin) (last : End) →
         ComesMoved shift R.remaining (left records.old) origin.entries last →
-        Keeps origin (state sending.old (V.contents report.old) (W.contents departures.old)) →
-        Ends result (got (V.contents report.old) (W.contents departures.old))
-        (got (V.contents report.new) (W.contents departures.new))
+        Keeps origin (state_of V.contents W.contents sending.old outputs.old) →
+        Ends result (got (V.contents outputs.old.report) (W.contents outputs.old.departures))
+        (got (V.contents outputs.new.report) (W.contents outputs.new.departures))
         (record {
           output = told_to_end origin
               (merged (timed_from 0 (kept_requests read script.now.octets.items
@@ -148,26 +109,8 @@ fn run<A: Allocator + Clone, B: Allocator, C: Allocator, R: Read, W: PutLine, V:
           fault = end_fault (length origin.entries) last;
         }) }
 {
-    let mut cursor = Cursor { at: 0, clock: 0 };
-    let broken = run_records(
-        sending,
-        script,
-        &mut cursor,
-        records,
-        shift,
-        departures,
-        report,
-        watch,
-    )?;
-    finish(
-        sending,
-        script,
-        &mut cursor,
-        until,
-        departures,
-        report,
-        watch,
-    )?;
+    let broken = walk_both(sending, script, records, shift, outputs, watch)?;
+    run_on(sending, until, outputs, watch)?;
     ended_by(broken)
 }
 
@@ -260,12 +203,11 @@ fn begin<A: Allocator + Clone, W: Write>(
 /// are kept, and of a capture the octets of the frames that wait, and where a summary is wanted when they came. Who
 /// watches is called for each record once it is taken, for a malformed line of the script, and for each line that
 /// begins with `tc` and changes nothing.
-pub fn replay_timed<A: Allocator, R: Read + Drop, S: Read + Drop, W: PutLine, V: PutLine, P: Watch>(
+pub fn replay_timed<A: Allocator, R: Read + Drop, S: Read + Drop, V: PutLine, W: PutLine, P: Watch>(
     alloc: A,
     script: R,
     capture: S,
-    departures: &mut W,
-    report: &mut V,
+    outputs: &mut Outputs<V, W>,
     settings: Settings,
     timing: Timing,
     watch: &mut P,
@@ -274,12 +216,11 @@ pub fn replay_timed<A: Allocator, R: Read + Drop, S: Read + Drop, W: PutLine, V:
         IfSome (R.remaining script)
         (λ lines. IfSome (S.remaining capture) (λ octets.
         (records : Result (List Entry × End) CapFault) → ReadsAs octets records →
-        Ends result (got (V.contents report.old) (W.contents departures.old))
-        (got (V.contents report.new) (W.contents departures.new))
+        Ends result (got (V.contents outputs.old.report) (W.contents outputs.old.departures))
+        (got (V.contents outputs.new.report) (W.contents outputs.new.departures))
         (timed_outcome read settings timing lines records))) }
     ensures late { is_too_late settings.until ≡ true →
-        (result ≡ Err (Faults.Input Inputs.Until)) × (departures.new ≡ departures.old)
-        × (report.new ≡ report.old) }
+        (result ≡ Err (Faults.Input Inputs.Until)) × (outputs.new ≡ outputs.old) }
 {
     let until = settings.until();
     if is_too_late(until) {
@@ -289,27 +230,31 @@ pub fn replay_timed<A: Allocator, R: Read + Drop, S: Read + Drop, W: PutLine, V:
     let summary = summary_wanted(&alloc, settings.summary(), settings.room())?;
     let script = read_script(&alloc, script, watch)?;
     let mut records = open_capture(alloc, capture)?;
-    let mut sending = begin(&alloc, settings, timing.stamp, summary, departures)?;
+    let mut sending = begin(
+        &alloc,
+        settings,
+        timing.stamp,
+        summary,
+        &mut outputs.departures,
+    )?;
     run(
         &mut sending,
         &script,
         until,
         &mut records,
         timing.shift,
-        departures,
-        report,
+        outputs,
         watch,
     )
 }
 
 /// Runs a script and a capture through a new port, by moment, as `replay_timed` does, with no moment moved. The records
 /// of the frames that start carry the moment that `stamp` says.
-pub fn replay<A: Allocator, R: Read + Drop, S: Read + Drop, W: PutLine, V: PutLine, P: Watch>(
+pub fn replay<A: Allocator, R: Read + Drop, S: Read + Drop, V: PutLine, W: PutLine, P: Watch>(
     alloc: A,
     script: R,
     capture: S,
-    departures: &mut W,
-    report: &mut V,
+    outputs: &mut Outputs<V, W>,
     settings: Settings,
     stamp: Stamp,
     watch: &mut P,
@@ -318,15 +263,12 @@ pub fn replay<A: Allocator, R: Read + Drop, S: Read + Drop, W: PutLine, V: PutLi
         IfSome (R.remaining script)
         (λ lines. IfSome (S.remaining capture) (λ octets.
         (records : Result (List Entry × End) CapFault) → ReadsAs octets records →
-        Ends result (got (V.contents report.old) (W.contents departures.old))
-        (got (V.contents report.new) (W.contents departures.new))
+        Ends result (got (V.contents outputs.old.report) (W.contents outputs.old.departures))
+        (got (V.contents outputs.new.report) (W.contents outputs.new.departures))
         (outcome_of read settings stamp lines records))) }
     ensures late { is_too_late settings.until ≡ true →
-        (result ≡ Err (Faults.Input Inputs.Until)) × (departures.new ≡ departures.old)
-        × (report.new ≡ report.old) }
+        (result ≡ Err (Faults.Input Inputs.Until)) × (outputs.new ≡ outputs.old) }
 {
     let timing = Timing { stamp, shift: None };
-    replay_timed(
-        alloc, script, capture, departures, report, settings, timing, watch,
-    )
+    replay_timed(alloc, script, capture, outputs, settings, timing, watch)
 }

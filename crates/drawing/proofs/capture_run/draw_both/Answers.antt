@@ -1,8 +1,9 @@
 use Rattle.std.proofs.Common.{Ok, Err, Result, sym, ap, ◌∙◌, subst}
 use Rattle.std.proofs.lemmas.Result.{err_from_is_err_and}
+use Rattle.replay.proofs.RecordLaws.{unmoved}
 use Rattle.replay.specs.Faults.{fault_of_stop}
 use Rattle.drawing.specs.OfCapture.{BandsOfBoth, IsDrawnWhole, WhereWhole, picture_read}
-use Rattle.drawing.specs.Words.{Fault, ForSomeBands, ReplayInput, kept_requests, place}
+use Rattle.drawing.specs.Words.{Fault, ForSomeBands, ReplayInput, drawn_place, kept_requests}
 use Rattle.drawing.proofs.CaptureLaws.{both_short, both_unread, both_whole}
 use Rattle.drawing.proofs.capture_run.draw_both.Goals as goal
 
@@ -10,22 +11,27 @@ pub returns-in_err-broken : goal.returns-in_err-broken
 returns-in_err-broken g c = λ read is entries last comes.
     let p = err_from_is_err_and c.from_residual.result c.from_residual.ensures.1 in
     let script = kept_requests read c.args.script.now.octets.items c.args.script.now.lines.items in
-    both_unread c.args.settings c.args.options script entries last (g.W.Write.contents c.args.writer.now) (p.1 ∙ ap Err (p.2 ∙ ap fault_of_stop (c.in_err-broken.ensures read is entries last comes)))
+    let taken = c.in_err-broken.ensures.taken read is entries last (record { read = entries; read_last = last; comes = comes; are_moved = unmoved entries last }) in
+    both_unread c.args.drawn.now.settings c.args.drawn.now.options script entries last (g.W.Write.contents c.args.writer.now) (p.1 ∙ ap Err (p.2 ∙ ap fault_of_stop taken.taken))
 
 pub returns-in_err-draw_end_of_both : goal.returns-in_err-draw_end_of_both
 returns-in_err-draw_end_of_both g c = λ read is entries last comes.
     let p = err_from_is_err_and c.from_residual-in_err-draw_end_of_both.result c.from_residual-in_err-draw_end_of_both.ensures.1 in
     let script = kept_requests read c.args.script.now.octets.items c.args.script.now.lines.items in
-    let drawn = c.in_ok-broken.ensures read is entries last comes in
-    both_short c.args.settings c.args.options script entries last c.settling.ensures (place c.args.port.now.port c.args.course.now c.args.bands.now) (place c.take_both.new.port.port c.take_both.new.course c.take_both.new.bands) c.requires.place c.requires.sound drawn.1 _ _ (p.1 ∙ ap Err p.2) c.in_err-draw_end_of_both.ensures
+    let x = c.args.drawn.now in
+    let taken = c.in_ok-broken.ensures.taken read is entries last (record { read = entries; read_last = last; comes = comes; are_moved = unmoved entries last }) in
+    both_short x.settings x.options script entries last c.settling.ensures (drawn_place x) (drawn_place c.walk_both.new.taker) c.requires.place c.requires.sound taken.taken.drawn _ _ (p.1 ∙ ap Err p.2)
+    (rw (← taken.taken.settings, ← taken.taken.options) c.in_err-draw_end_of_both.ensures)
 
 pub returns : goal.returns
 returns g c = λ read is entries last comes.
     let script = kept_requests read c.args.script.now.octets.items c.args.script.now.lines.items in
-    let drawn = c.in_ok-broken.ensures read is entries last comes in
-    let s = c.args.settings in
-    let o = c.args.options in
+    let x = c.args.drawn.now in
+    let taken = c.in_ok-broken.ensures.taken read is entries last (record { read = entries; read_last = last; comes = comes; are_moved = unmoved entries last }) in
+    let s = x.settings in
+    let o = x.options in
     let old = g.W.Write.contents c.args.writer.now in
     let new = g.W.Write.contents c.draw_end_of_both.new.writer in
     let P : Result (Unit {0}) (Fault ReplayInput) → Type 0 = λ r. ForSomeBands (λ b. WhereWhole r (BandsOfBoth s o script entries b) × IsDrawnWhole r old new (picture_read s o script (Ok (entries, last)) b)) in
-    subst P (sym c.ended_by.ensures) (both_whole s o script entries last c.settling.ensures (place c.args.port.now.port c.args.course.now c.args.bands.now) (place c.take_both.new.port.port c.take_both.new.course c.take_both.new.bands) c.requires.place c.requires.sound drawn.1 c.in_ok-broken.broken old new drawn.0 c.in_ok-draw_end_of_both.ensures)
+    subst P (sym c.ended_by.ensures) (both_whole s o script entries last c.settling.ensures (drawn_place x) (drawn_place c.walk_both.new.taker) c.requires.place c.requires.sound taken.taken.drawn c.in_ok-broken.broken old new taken.ending
+    (rw (← taken.taken.settings, ← taken.taken.options) c.in_ok-draw_end_of_both.ensures))

@@ -47,4 +47,5 @@ returns-clause-picture g c = λ read is. (
     let given = rw known at c.in_ok-script.ensures.script read is in
     let found = opened g.S.Read.remaining (g.S.Read.remaining c.args.capture) (left c.in_ok-records.records) octets records c.in_ok-records.ensures.ok known' reads in
     let comes = comes_new g.S.Read.remaining (g.S.Read.remaining c.args.capture) (left c.in_ok-records.records) octets found.0 found.1 c.in_ok-records.ensures.ok known' (subst (λ (x : Result (List Entry × End) CapFault). ReadsAs octets x) found.2 reads) in
-    both_good read s o lines records late c.draw_both.result _ found.0 found.1 (g.W.Write.contents c.args.writer.now) (g.W.Write.contents c.draw_both.new.writer) given.0 given.1 found.2 (c.draw_both.ensures read is found.0 found.1 comes))))
+    both_good read s o lines records late c.draw_both.result _ found.0 found.1 (g.W.Write.contents c.args.writer.now) (g.W.Write.contents c.draw_both.new.writer) given.0 given.1 found.2
+    (rw (← c.in_ok-drawn.ensures.settings, ← c.in_ok-drawn.ensures.options) (c.draw_both.ensures read is found.0 found.1 comes)))))

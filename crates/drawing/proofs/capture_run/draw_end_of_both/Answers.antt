@@ -12,11 +12,11 @@ draw_ended-requires g c = (search rules, (search rules, (search rules, c.asked_t
 
 pub returns : goal.returns
 returns g c =
-    let s = c.args.settings in
-    let o = c.args.options in
-    let p = c.args.port.now.port in
-    let x = c.args.course.now in
-    let d = c.args.bands.now in
+    let s = c.args.drawn.now.settings in
+    let o = c.args.drawn.now.options in
+    let p = c.args.drawn.now.port.port in
+    let x = c.args.drawn.now.course in
+    let d = c.args.drawn.now.bands in
     let upto = c.run_end.ensures.moment ∙ ap (λ (u : Option ℕ). run_end u) c.until-until.ensures.value in
     let port = c.run_on.ensures.port ∙ ap (λ (m : ℕ). port_on (Some m) p) upto in
     let course = c.run_on.ensures.course ∙ ap (λ (m : ℕ). course_on (Some m) p x) upto in

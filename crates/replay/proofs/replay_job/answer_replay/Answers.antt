@@ -14,7 +14,7 @@ returns g c =
     let unwritten : Output = record { report = writer_buffer report; departures = writer_buffer departures } in
     replay_ending c.args.settings c.args.timing c.say_run-ended.result
     (got (writer_contents w c.args.outputs.report) (writer_contents v c.args.outputs.departures))
-    (got (writer_contents w c.replay_timed-run.new.report) (writer_contents v c.replay_timed-run.new.departures))
+    (got (writer_contents w c.replay_timed-run.new.outputs.report) (writer_contents v c.replay_timed-run.new.outputs.departures))
     (got (writer_contents w report) (writer_contents v departures))
     (got (w c.into_parts-report.result.0) (v c.into_parts-departures.result.0))
     _ _ unwritten c.replay_timed-run.result c.let_out-run.result

@@ -2,7 +2,7 @@ use Rattle.std.proofs.Common.{Err, refl, ap, ◌∙◌}
 use Rattle.std.proofs.lemmas.Result.{IfOk-from_err, err_from_is_err_and}
 use Rattle.replay.specs.Words.{PortState, stamping_at}
 use Rattle.replay.specs.declared.faults.Stop.TheVariants as Stops
-use Rattle.replay.proofs.Sends.{both_none, both_stop, capture_short, capture_whole}
+use Rattle.replay.specs.Sends.{both_none, both_stop, capture_short, capture_whole}
 use Rattle.replay.proofs.replay_run.begin.Goals as goal
 
 pub returns-in_err-clone-clause-out : goal.returns-in_err-clone-clause-out

@@ -11,7 +11,7 @@ returns-in_err-summary-clause-replay g c = λ read is. (
     let r = c.from_residual.result in
     let p = err_from_is_err_and r c.from_residual.ensures.1 in
     let s = c.args.settings in
-    let old = got (g.V.Write.contents c.args.report.now) (g.W.Write.contents c.args.departures.now) in
+    let old = got (g.V.Write.contents c.args.outputs.now.report) (g.W.Write.contents c.args.outputs.now.departures) in
     when_known (g.R.Read.remaining c.args.script) _ (λ lines known. when_known (g.S.Read.remaining c.args.capture) _ (λ octets known'. λ records reads.
     memory_wanting (Unit {0}) r old (timed_outcome read s c.args.timing lines records) (p.1 ∙ ap Err p.2))))
 
@@ -20,7 +20,7 @@ returns-in_err-script-clause-replay g c = λ read is. (
     let r = c.from_residual-in_err-script.result in
     let p = err_from_is_err_and r c.from_residual-in_err-script.ensures.1 in
     let s = c.args.settings in
-    let old = got (g.V.Write.contents c.args.report.now) (g.W.Write.contents c.args.departures.now) in
+    let old = got (g.V.Write.contents c.args.outputs.now.report) (g.W.Write.contents c.args.outputs.now.departures) in
     let late : is_too_late s.until ≡ false = sym (ap is_too_late c.until-until.ensures.value) ∙ sym c.is_too_late.ensures ∙ c.if-is_too_late.false in
     when_known (g.R.Read.remaining c.args.script) _ (λ lines known. when_known (g.S.Read.remaining c.args.capture) _ (λ octets known'. λ records reads.
     script_refused read s c.args.timing.stamp lines (moved_reading c.args.timing.shift records) late (Unit {0}) c.in_err-script.field-0.0 r old (p.1 ∙ ap Err p.2) (rw known at c.in_err-script.ensures.script read is))))
@@ -30,7 +30,7 @@ returns-in_err-records-clause-replay g c = λ read is. (
     let r = c.from_residual-in_err-records.result in
     let p = err_from_is_err_and r c.from_residual-in_err-records.ensures.1 in
     let s = c.args.settings in
-    let old = got (g.V.Write.contents c.args.report.now) (g.W.Write.contents c.args.departures.now) in
+    let old = got (g.V.Write.contents c.args.outputs.now.report) (g.W.Write.contents c.args.outputs.now.departures) in
     let late : is_too_late s.until ≡ false = sym (ap is_too_late c.until-until.ensures.value) ∙ sym c.is_too_late.ensures ∙ c.if-is_too_late.false in
     when_known (g.R.Read.remaining c.args.script) _ (λ lines known. when_known (g.S.Read.remaining c.args.capture) _ (λ octets known'. λ records reads.
     let given = rw known at c.in_ok-script.ensures.script read is in
@@ -42,8 +42,8 @@ returns-in_err-sending-clause-replay g c = λ read is. (
     let r = c.from_residual-in_err-sending.result in
     let p = err_from_is_err_and r c.from_residual-in_err-sending.ensures.1 in
     let s = c.args.settings in
-    let report = g.V.Write.contents c.args.report.now in
-    let old = got report (g.W.Write.contents c.args.departures.now) in
+    let report = g.V.Write.contents c.args.outputs.now.report in
+    let old = got report (g.W.Write.contents c.args.outputs.now.departures) in
     let mid = got report (g.W.Write.contents c.begin.new.departures) in
     let late : is_too_late s.until ≡ false = sym (ap is_too_late c.until-until.ensures.value) ∙ sym c.is_too_late.ensures ∙ c.if-is_too_late.false in
     when_known (g.R.Read.remaining c.args.script) _ (λ lines known. when_known (g.S.Read.remaining c.args.capture) _ (λ octets known'. λ records reads.
@@ -60,10 +60,10 @@ pub returns-clause-replay : goal.returns-clause-replay
 returns-clause-replay g c = λ read is. (
     let r = c.run.result in
     let s = c.args.settings in
-    let report = g.V.Write.contents c.args.report.now in
-    let old = got report (g.W.Write.contents c.args.departures.now) in
+    let report = g.V.Write.contents c.args.outputs.now.report in
+    let old = got report (g.W.Write.contents c.args.outputs.now.departures) in
     let mid = got report (g.W.Write.contents c.begin.new.departures) in
-    let new = got (g.V.Write.contents c.run.new.report) (g.W.Write.contents c.run.new.departures) in
+    let new = got (g.V.Write.contents c.run.new.outputs.report) (g.W.Write.contents c.run.new.outputs.departures) in
     let late : is_too_late s.until ≡ false = sym (ap is_too_late c.until-until.ensures.value) ∙ sym c.is_too_late.ensures ∙ c.if-is_too_late.false in
     when_known (g.R.Read.remaining c.args.script) _ (λ lines known. when_known (g.S.Read.remaining c.args.capture) _ (λ octets known'. λ records reads.
     let given = rw known at c.in_ok-script.ensures.script read is in

@@ -4,7 +4,7 @@ use Rattle.replay.specs.Words.{AbstractPort, after_arrival, arrival_answer, kept
 use Rattle.abstract_port.specs.AbstractPort.{class_for}
 use Rattle.replay.specs.declared.faults.Stop.TheVariants as Stops
 use Rattle.replay.proofs.ArrivalLaws.{dropped_queues, dropped_room, has_room, keeps-put, together-put}
-use Rattle.replay.proofs.Sends.{both_none, both_stop, never, of_error, report_short, report_whole}
+use Rattle.replay.specs.Sends.{both_none, both_stop, never, of_error, report_short, report_whole}
 use Rattle.replay.proofs.StartLaws.{still_keeps, still_together}
 use Rattle.replay.proofs.TellLaws.{arrival_told, arrived}
 use Rattle.replay.proofs.sender.put_arrival.Goals as goal

@@ -7,8 +7,8 @@ use Rattle.abstract_port.specs.declared.Event.TheVariants as Events
 use Rattle.abstract_port.proofs.RunLaws.{settled-current}
 use Rattle.replay.specs.declared.faults.Stop.TheVariants as Stops
 use Rattle.replay.proofs.ArrivalLaws.{one_answer}
-use Rattle.replay.proofs.SeenLaws.{noted-one}
-use Rattle.replay.proofs.Sends.{both_all, both_none, never, of_error, report_short, report_whole}
+use Rattle.replay.specs.SeenLaws.{noted-one}
+use Rattle.replay.specs.Sends.{both_all, both_none, never, of_error, report_short, report_whole}
 use Rattle.replay.proofs.StartLaws.{idle_queues, idle_room, no-starts-end, no-starts-last, no-starts-out, no-starts-seen, none-before, still_keeps, still_together}
 use Rattle.replay.proofs.TellLaws.{answers_one, clock_back, clock_on}
 use Rattle.replay.proofs.sender.put_clock.Goals as goal

@@ -3,7 +3,7 @@ use Rattle.std.proofs.lemmas.Result.{err_from_is_err_and}
 use Rattle.replay.specs.Words.{AbstractPort, PortState, starts_until, last_end, noted_all, IsSoundPort, State, state}
 use Rattle.abstract_port.specs.declared.Answer.TheVariants as Answered
 use Rattle.replay.specs.declared.faults.Stop.TheVariants as Stops
-use Rattle.replay.proofs.Sends.{both_all, both_exit, both_more, both_none, never, of_error}
+use Rattle.replay.specs.Sends.{both_all, both_exit, both_more, both_none, never, of_error}
 use Rattle.replay.proofs.StartLaws.{early, fewer, has_first, idle_queues, idle_room, keeps-after, leaves, no-starts-end, no-starts-last, no-starts-out, no-starts-seen, onward, same-end, starts-kept, starts-last, starts-seen, still_keeps, still_together, together-after}
 use Rattle.replay.proofs.sender.put_each_start.Goals as goal
 

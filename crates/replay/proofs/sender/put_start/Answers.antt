@@ -1,7 +1,7 @@
 use Rattle.std.proofs.Common.{◌≡◌, Err, refl, ap, ◌∙◌}
 use Rattle.std.proofs.lemmas.Result.{err_from_is_err_and}
 use Rattle.replay.specs.declared.faults.Stop.TheVariants as Stops
-use Rattle.replay.proofs.Sends.{always, never, of_error, report_and_record, report_short}
+use Rattle.replay.specs.Sends.{always, never, of_error, report_and_record, report_short}
 use Rattle.replay.proofs.sender.put_start.Goals as goal
 
 pub returns-in_err-put_noted_start-clause-out : goal.returns-in_err-put_noted_start-clause-out
