@@ -1,6 +1,7 @@
 -- A run on a script and a capture, from what its parts leave.
 use Rattle.std.proofs.Common.{◌≡◌, ℕ, List, length, false, true, Option, Some, None, Result, Ok, Err, refl, sym, ap, ◌∙◌, subst, ◌∷◌, []}
 use Rattle.text.proofs.Fronts.{Appends-nil, sent_none}
+use Rattle.capture.specs.CaptureReader.{Left}
 use Rattle.capture.specs.FileHeader.{format_of}
 use Rattle.job.specs.declared.fault.Fault.TheVariants as Faults
 use Rattle.text.specs.Script.{script_of}

@@ -12,7 +12,7 @@ use Rattle.frame_table.proofs.WalkLaws.{let_know, let_out, stops_write}
 module _ {H : Type 0} (alerted : List Alert → H → H → Type 0) (streams : Option (List Stream)) where
   -- a fault is none of an input
   pub stops_by : (fault : Fault BadLine) (rs : List Request) {x y : Place H} → StopsAt alerted streams rs fault x y → StopsAt alerted streams rs (fault_of (stop_of fault)) x y
-  stops_by (Faults.Input bad) rs {x} {y} a first all rest st = absurd (let no : ◌≡◌ {A = Option BadLine} None (Some bad) = (a first all rest st).out.0 in cc)
+  stops_by (Faults.Input bad) rs a = λ first all rest st. absurd (let no : ◌≡◌ {A = Option BadLine} None (Some bad) = (a first all rest st).out.0 in cc)
   stops_by Faults.Read rs a = a
   stops_by Faults.Write rs a = a
   stops_by Faults.Memory rs a = a

@@ -7,8 +7,8 @@ use Rattle.frame_table.proofs.TabledLaws.{takes}
 use Rattle.frame_table.proofs.WalkLaws.{tc_carries}
 use Rattle.frame_table.proofs.tabled.TabledTaker.take_line.Goals as goal
 
-pub returns-in-Clock : goal.returns-in-Clock
-returns-in-Clock g c = λ read is es.
+pub returns-in-Clock-clause-taken : goal.returns-in-Clock-clause-taken
+returns-in-Clock-clause-taken g c = λ read is es.
     let s = c.args.self.now in
     let t = c.take.new.self in
     let x = place s.port.port s.arrivals (g.W.Write.contents c.args.out.now) c.args.watch.now in
@@ -16,8 +16,8 @@ returns-in-Clock g c = λ read is es.
     let P : KeptLine → Type 0 = λ l. Carries g.H.Watch.alerted None (run_of c.take.result) (kept_request read c.args.octets.now l ∷ []) x y in
     takes g.H.Watch.alerted None (λ (s : Tabled _) w h. place s.port.port s.arrivals (g.W.Write.contents w) h) es _ c.take.result s c.args.out.now c.args.watch.now t c.take.new.out c.take.new.watch (subst P (sym c.in-Clock.is) c.take.ensures)
 
-pub returns-in-Query : goal.returns-in-Query
-returns-in-Query g c = λ read is es.
+pub returns-in-Query-clause-taken : goal.returns-in-Query-clause-taken
+returns-in-Query-clause-taken g c = λ read is es.
     let s = c.args.self.now in
     let a = c.take-in-Query in
     let t = a.new.self in
@@ -26,8 +26,8 @@ returns-in-Query g c = λ read is es.
     let P : KeptLine → Type 0 = λ l. Carries g.H.Watch.alerted None (run_of a.result) (kept_request read c.args.octets.now l ∷ []) x y in
     takes g.H.Watch.alerted None (λ (s : Tabled _) w h. place s.port.port s.arrivals (g.W.Write.contents w) h) es _ a.result s c.args.out.now c.args.watch.now t a.new.out a.new.watch (subst P (sym c.in-Query.is) a.ensures)
 
-pub returns-in-Count : goal.returns-in-Count
-returns-in-Count g c = λ read is es.
+pub returns-in-Count-clause-taken : goal.returns-in-Count-clause-taken
+returns-in-Count-clause-taken g c = λ read is es.
     let s = c.args.self.now in
     let a = c.take-in-Count in
     let t = a.new.self in
@@ -36,8 +36,8 @@ returns-in-Count g c = λ read is es.
     let P : KeptLine → Type 0 = λ l. Carries g.H.Watch.alerted None (run_of a.result) (kept_request read c.args.octets.now l ∷ []) x y in
     takes g.H.Watch.alerted None (λ (s : Tabled _) w h. place s.port.port s.arrivals (g.W.Write.contents w) h) es _ a.result s c.args.out.now c.args.watch.now t a.new.out a.new.watch (subst P (sym c.in-Count.is) a.ensures)
 
-pub returns-in-Tc : goal.returns-in-Tc
-returns-in-Tc g c = λ read is es.
+pub returns-in-Tc-clause-taken : goal.returns-in-Tc-clause-taken
+returns-in-Tc-clause-taken g c = λ read is es.
     let octets = c.args.octets.now in
     let s = c.args.self.now in
     let x = place s.port.port s.arrivals (g.W.Write.contents c.args.out.now) c.args.watch.now in

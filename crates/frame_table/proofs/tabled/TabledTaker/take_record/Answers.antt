@@ -7,8 +7,8 @@ use Rattle.frame_table.specs.declared.tabled.Tabled.{Tabled}
 use Rattle.frame_table.proofs.TabledLaws.{takes_known, takes_not}
 use Rattle.frame_table.proofs.tabled.TabledTaker.take_record.Goals as goal
 
-pub returns-in_err-take : goal.returns-in_err-take
-returns-in_err-take g c = λ es kept.
+pub returns-in_err-take-clause-taken : goal.returns-in_err-take-clause-taken
+returns-in_err-take-clause-taken g c = λ es kept.
     let p = err_from_is_err_and c.from_residual.result c.from_residual.ensures.1 in
     let stop = c.in_err-take.field-0.0 in
     let clock = Asks (Clock c.args.moment) ∷ [] in
@@ -16,8 +16,8 @@ returns-in_err-take g c = λ es kept.
     takes_not g.H.Watch.alerted None (λ (s : Tabled _) w h. place s.port.port s.arrivals (g.W.Write.contents w) h) es _ c.from_residual.result stop c.args.self.now c.args.out.now c.args.watch.now c.take.new.self c.take.new.out c.take.new.watch (p.1 ∙ ap Err p.2)
     (stops_sooner g.H.Watch.alerted None (fault_of stop) clock arrives c.in_err-take.ensures)
 
-pub returns-in_err-take-2 : goal.returns-in_err-take-2
-returns-in_err-take-2 g c = λ es kept.
+pub returns-in_err-take-2-clause-taken : goal.returns-in_err-take-2-clause-taken
+returns-in_err-take-2-clause-taken g c = λ es kept.
     let p = err_from_is_err_and c.from_residual-in_err-take-2.result c.from_residual-in_err-take-2.ensures.1 in
     let stop = c.in_err-take-2.field-0.0 in
     let clock = Asks (Clock c.args.moment) ∷ [] in
@@ -30,8 +30,8 @@ returns-in_err-take-2 g c = λ es kept.
     takes_not g.H.Watch.alerted None (λ (s : Tabled _) w h. place s.port.port s.arrivals (g.W.Write.contents w) h) es _ c.from_residual-in_err-take-2.result stop c.args.self.now c.args.out.now c.args.watch.now t c.take-2.new.out c.take-2.new.watch (p.1 ∙ ap Err p.2)
     (takes_both g.H.Watch.alerted None (Err (fault_of stop)) clock _ z c.in_ok-take.ensures its)
 
-pub returns : goal.returns
-returns g c = λ es kept.
+pub returns-clause-taken : goal.returns-clause-taken
+returns-clause-taken g c = λ es kept.
     let clock = Asks (Clock c.args.moment) ∷ [] in
     let arrives = Asks (Arrive (frame_of (entry c.args.record.now) c.args.number)) ∷ [] in
     let u = c.take.new.self in
