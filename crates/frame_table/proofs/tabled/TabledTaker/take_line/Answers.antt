@@ -14,7 +14,7 @@ returns-in-Clock-clause-taken g c = λ read is es.
     let x = place s.port.port s.arrivals (g.W.Write.contents c.args.out.now) c.args.watch.now in
     let y = place t.port.port t.arrivals (g.W.Write.contents c.take.new.out) c.take.new.watch in
     let P : KeptLine → Type 0 = λ l. Carries g.H.Watch.alerted None (run_of c.take.result) (kept_request read c.args.octets.now l ∷ []) x y in
-    takes g.H.Watch.alerted None (λ (s : Tabled _) w h. place s.port.port s.arrivals (g.W.Write.contents w) h) es _ c.take.result s c.args.out.now c.args.watch.now t c.take.new.out c.take.new.watch (subst P (sym c.in-Clock.is) c.take.ensures)
+    takes g.H.Watch.alerted None (λ (s : Tabled _) w h. place s.port.port s.arrivals (g.W.Write.contents w) h) es (kept_request read c.args.octets.now c.args.line ∷ []) c.take.result s c.args.out.now c.args.watch.now t c.take.new.out c.take.new.watch (subst P (sym c.in-Clock.is) c.take.ensures)
 
 pub returns-in-Query-clause-taken : goal.returns-in-Query-clause-taken
 returns-in-Query-clause-taken g c = λ read is es.
@@ -24,7 +24,7 @@ returns-in-Query-clause-taken g c = λ read is es.
     let x = place s.port.port s.arrivals (g.W.Write.contents c.args.out.now) c.args.watch.now in
     let y = place t.port.port t.arrivals (g.W.Write.contents a.new.out) a.new.watch in
     let P : KeptLine → Type 0 = λ l. Carries g.H.Watch.alerted None (run_of a.result) (kept_request read c.args.octets.now l ∷ []) x y in
-    takes g.H.Watch.alerted None (λ (s : Tabled _) w h. place s.port.port s.arrivals (g.W.Write.contents w) h) es _ a.result s c.args.out.now c.args.watch.now t a.new.out a.new.watch (subst P (sym c.in-Query.is) a.ensures)
+    takes g.H.Watch.alerted None (λ (s : Tabled _) w h. place s.port.port s.arrivals (g.W.Write.contents w) h) es (kept_request read c.args.octets.now c.args.line ∷ []) a.result s c.args.out.now c.args.watch.now t a.new.out a.new.watch (subst P (sym c.in-Query.is) a.ensures)
 
 pub returns-in-Count-clause-taken : goal.returns-in-Count-clause-taken
 returns-in-Count-clause-taken g c = λ read is es.
@@ -34,7 +34,7 @@ returns-in-Count-clause-taken g c = λ read is es.
     let x = place s.port.port s.arrivals (g.W.Write.contents c.args.out.now) c.args.watch.now in
     let y = place t.port.port t.arrivals (g.W.Write.contents a.new.out) a.new.watch in
     let P : KeptLine → Type 0 = λ l. Carries g.H.Watch.alerted None (run_of a.result) (kept_request read c.args.octets.now l ∷ []) x y in
-    takes g.H.Watch.alerted None (λ (s : Tabled _) w h. place s.port.port s.arrivals (g.W.Write.contents w) h) es _ a.result s c.args.out.now c.args.watch.now t a.new.out a.new.watch (subst P (sym c.in-Count.is) a.ensures)
+    takes g.H.Watch.alerted None (λ (s : Tabled _) w h. place s.port.port s.arrivals (g.W.Write.contents w) h) es (kept_request read c.args.octets.now c.args.line ∷ []) a.result s c.args.out.now c.args.watch.now t a.new.out a.new.watch (subst P (sym c.in-Count.is) a.ensures)
 
 pub returns-in-Tc-clause-taken : goal.returns-in-Tc-clause-taken
 returns-in-Tc-clause-taken g c = λ read is es.
