@@ -80,8 +80,9 @@ fn take_event(drawn: &mut Drawn, event: &Event<'_>)
 /// `tc` and changes nothing.
 fn draw_line<H: Watch>(drawn: &mut Drawn, octets: &[u8], line: KeptLine, watch: &mut H)
     requires { IsKept octets.now line }
-    ensures { (read : List (List ℕ) → Result Command TcFault) → IsReader read →
+    ensures taken { (read : List (List ℕ) → Result Command TcFault) → IsReader read →
         Draws (kept_request read octets.now line ∷ []) drawn.old drawn.new }
+    ensures settings { drawn.new.settings ≡ drawn.old.settings }
 {
     match line {
         KeptLine::Clock(moment) => take_event(drawn, &Event::Clock(moment)),
@@ -112,12 +113,13 @@ fn draw_record(drawn: &mut Drawn, moment: u128, number: u32, record: &Record<'_>
 }
 
 impl<W, H: Watch> Taker<W, H> for Drawn {
-    ghost use Rattle.std.specs.Prelude.{◌≡◌, ⊤};
+    ghost use Rattle.std.specs.Prelude.{◌≡◌, false};
     ghost use Rattle.std.proofs.Common.{refl};
     ghost use Rattle.drawing.specs.Walk.{Draws, draws_both, draws_none};
+    ghost use Rattle.replay.specs.Outcome.{is_too_late};
     ghost use Rattle.replay.specs.declared.faults.Stop.TheVariants as Stops;
 
-    ghost ready = { λ s. ⊤ };
+    ghost ready = { λ s. is_too_late s.settings.until ≡ false };
 
     ghost took = { λ es rs s w h t v k. Draws rs s t };
 
