@@ -200,9 +200,15 @@ fn tells_before(alloc: Global, room: usize, told: &[u8]) -> bool {
     let Some(settings) = settings(END) else {
         return false;
     };
-    let mut report = Vec::new(alloc);
-    let mut written = narrow(alloc, room, true, false);
-    let result = replay_to(alloc, &mut written, &mut report, settings);
+    let mut outputs = Outputs {
+        report: Vec::new(alloc),
+        departures: narrow(alloc, room, true, false),
+    };
+    let result = replay_to(alloc, &mut outputs, settings);
+    let Outputs {
+        report,
+        departures: written,
+    } = outputs;
     result == Err(ReplayFault::Write) && written.got.len() == room && report.as_slice() == told
 }
 
