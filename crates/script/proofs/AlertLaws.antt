@@ -2,9 +2,12 @@
 use Rattle.std.proofs.Common.{◌≡◌, ◌<◌, ◌≤◌, inl, inr, ◌+◌, ◌-◌, ◌||◌, ℕ, suc, Bool, true, false, cond, ltb, List, [], ◌∷◌, ◌++◌, map, length, Option, Some, None, Result, Ok, Err, refl, sym, ap, ◌∙◌, subst, append_assoc, append-nil, arith}
 use Rattle.std.specs.Prelude.{IfSome}
 use Rattle.std.proofs.lemmas.Bool.{ne_eqb}
+use Rattle.std.proofs.lemmas.Grind.{flat_map-append}
 use denote.Bor.{Bor}
 use Rattle.abstract_port.specs.AbstractPort.{installs, starts_until}
-use Rattle.abstract_port.specs.Answers.{port_after}
+use Rattle.wire_time.specs.declared.Frame.{Frame}
+use Rattle.abstract_port.specs.Answers.{arrival_answer, port_after}
+use Rattle.abstract_port.specs.declared.Dropped.{Dropped}
 use Rattle.abstract_port.specs.declared.Answer.TheVariants as Answers
 use Rattle.abstract_port.specs.declared.Counters.{Counters}
 use Rattle.abstract_port.specs.declared.Event.TheVariants.{Count, Install}
@@ -17,18 +20,21 @@ use Rattle.job.specs.declared.halt.Halt.{Halt}
 use Rattle.job.specs.declared.halt.Halt.TheVariants as Halts
 use Rattle.text.specs.declared.octet_writer.WriteFault.{WriteFault}
 use Rattle.abstract_port.specs.Settled.{IsSettling}
-use Rattle.script.specs.Alerts.{Alert, AlertedFront, Alerting, Left, Watched, alerts_from, alerts_of, alert_of, end_alerts, end_unless, left_alert, refused_alert, run_alerts}
+use Rattle.script.specs.Alerts.{Alert, AlertedFront, Alerting, Left, Watched, alerts_from, alerts_of, alert_of, end_alerts, end_unless, left_alert, refused_alert, run_alerts, verdict_alert}
 use Rattle.script.specs.Outcome.{Reading}
-use Rattle.script.specs.Told.{Given, Hearing, Otherwise, Told, Tells, told_answer, told_answers, told_of, told_to}
-use Rattle.script.specs.Walked.{IsTaken, StepsHeard, Walked}
-use Rattle.script.specs.Words.{AbstractPort, Answer, Asks, BadLine, Clock, Command, Fault, IsSoundPort, PortState, Request, Script, answers_to, command_answer, counters_of, events_of, greatest_moment, queue_of, settled}
-use Rattle.script.proofs.LineSteps.{StandsFor, event-port, stands_after_all, stands_for_itself}
+use Rattle.script.specs.Told.{Came, Given, Otherwise, Told, told_answer, told_answers, told_of, told_to}
+use Rattle.script.specs.Words.{AbstractPort, Answer, Asks, BadLine, Clock, Command, Fault, answers_to, command_answer, counters_of, events_of, greatest_moment, queue_of, settled}
+use Rattle.script.proofs.LineSteps.{StandsFor, event-port}
 
 -- 1. The alerts of what is told
 
 pub alerts-both : (xs ys : List Told) → alerts_of (xs ++ ys) ≡ alerts_of xs ++ alerts_of ys
-alerts-both [] ys = refl
-alerts-both (x ∷ xs) ys = ap (λ z. alert_of x ++ z) (alerts-both xs ys) ∙ sym (append_assoc (alert_of x) (alerts_of xs) (alerts_of ys))
+alerts-both xs ys = flat_map-append alert_of xs ys
+
+-- of a frame
+pub verdict-alerts : (now : ℕ) (f : Frame) (class : Option ℕ) (v : Result ℕ Dropped) → verdict_alert now f v ≡ alerts_of (told_answers now (Came f class) (arrival_answer f v ∷ []))
+verdict-alerts now f class (Ok joined) = refl
+verdict-alerts now f class (Err why) = refl
 
 -- a start is none
 starts-quiet : (now : ℕ) (starts : List Start) → alerts_of (told_answers now Otherwise (map Answers.Start starts)) ≡ []
@@ -109,57 +115,7 @@ module _ {H : Type 0} (alerted : List Alert → H → H → Type 0) where
   alerting_all all h k (Ok x) a = a
   alerting_all all h k (Err x) a = front_of_all all h k a
 
--- 3. Who watches a walk, as an observer of it that writes nothing
-
-module _ {H : Type 0} (alerted : List Alert → H → H → Type 0) where
-  abbrev pub Hears : Hearing H (Unit {0})
-  Hears told h u k v = alerted (alerts_of told) h k
-
-  abbrev pub Cuts : Hearing H (Unit {0})
-  Cuts told h u k v = AlertedFront alerted (alerts_of told) h k
-
-  pub hears_nothing : ((s : H) → alerted [] s s) → (s : H) (u : Unit {0}) → Hears [] s u s u
-  hears_nothing nothing s u = nothing s
-
-  module _ (both : (xs ys : List Alert) (s t u : H) → alerted xs s t → alerted ys t u → alerted (xs ++ ys) s u) where
-    pub hears_both : (xs ys : List Told) (s t u : H) (w v x : Unit {0}) → Hears xs s w t v → Hears ys t v u x → Hears (xs ++ ys) s w u x
-    hears_both xs ys s t u w v x a b = alerts_same alerted _ _ s u (sym (alerts-both xs ys)) (both (alerts_of xs) (alerts_of ys) s t u a b)
-
-    pub cuts_later : (xs ys : List Told) (s t u : H) (w v x : Unit {0}) → Hears xs s w t v → Cuts ys t v u x → Cuts (xs ++ ys) s w u x
-    cuts_later xs ys s t u w v x a f = front_later alerted both (alerts_of xs) (alerts_of ys) (alerts_of (xs ++ ys)) s t u (alerts-both xs ys) a f
-
-  pub cuts_here : (xs ys : List Told) (s t : H) (w v : Unit {0}) → Hears xs s w t v → Cuts (xs ++ ys) s w t v
-  cuts_here xs ys s t w v a = record { first = alerts_of xs; rest = alerts_of ys; alerted_first = a; parts = alerts-both xs ys }
-
-  pub cuts_sooner : (xs ys : List Told) (s t : H) (w v : Unit {0}) → Cuts xs s w t v → Cuts (xs ++ ys) s w t v
-  cuts_sooner xs ys s t w v f = front_of_more alerted (alerts_of xs) (alerts_of ys) (alerts_of (xs ++ ys)) s t (alerts-both xs ys) f
-
-  -- a request that was taken
-  pub watched_taken : {S W T : Type 0} (heard cut : Hearing S W) (request : Request) (r : Result T Halt) (p q : PortState) (s t : S) (w v : W) (h k : H) → alerted (alerts_of (told_to request p.port)) h k → IsTaken heard cut request r p q s w t v
-      → IsTaken Hears Cuts request r p q h tt k tt
-  watched_taken {T = T} heard cut request r p q s t w v h k a i = record { told = by r; port = i.port; sound = i.sound; few = i.few }
-    where
-      by : (r : Result T Halt) → Tells Hears Cuts (told_to request p.port) r h tt k tt
-      by (Ok x) = a
-      by (Err x) = front_of_all alerted _ h k a
-
-  -- a step to the next line that fails tells no alert
-  pub steps_watched : {S W : Type 0} (heard cut : Hearing S W) → ((s : H) → alerted [] s s) → (old : Option Script) (fault : Fault BadLine) (number : ℕ) (line : List ℕ) (new : Option Script) (s t : S) (w v : W) (h : H)
-      → StepsHeard heard cut old (Err fault) number line new s w t v → StepsHeard Hears Cuts old (Err fault) number line new h tt h tt
-  steps_watched heard cut nothing old (Faults.Input fault) number line new s t w v h (a, b) = (a, nothing h)
-  steps_watched heard cut nothing old Faults.Read number line new s t w v h (a, b) = (a, nothing h)
-  steps_watched heard cut nothing old Faults.Write number line new s t w v h a = front_of_all alerted [] h h (nothing h)
-  steps_watched heard cut nothing old Faults.Memory number line new s t w v h a = front_of_all alerted [] h h (nothing h)
-
-  -- a walk
-  pub watched_walk : {T : Type 0} (reading : Reading) (p q : AbstractPort) (f : Result T (Fault BadLine)) (h k : H) → Walked Hears Cuts reading p q f h tt k tt → Watched alerted (alerts_of (told_of reading.requests p)) f h k
-  watched_walk reading p q (Ok x) h k w = w.1
-  watched_walk reading p q (Err (Faults.Input fault)) h k w = w.1
-  watched_walk reading p q (Err Faults.Read) h k w = w
-  watched_walk reading p q (Err Faults.Write) h k w = w
-  watched_walk reading p q (Err Faults.Memory) h k w = w
-
--- 4. The classes that still have frames
+-- 3. The classes that still have frames
 
 pub alerts-class : (class : ℕ) (p : AbstractPort) → class < 8 → alerts_from (8 - class) class p ≡ left_alert class (length (queue_of p class)) ++ alerts_from (8 - (class + 1)) (class + 1) p
 unfolding alerts_from
@@ -184,7 +140,7 @@ pub alerts-settled : (p : AbstractPort) → alerts_from 8 0 (settled p) ≡ aler
 unfolding alerts_from
 alerts-settled p = refl
 
--- 5. The end of a run
+-- 4. The end of a run
 
 -- of a port that stands for another
 pub end-alerts-same : IsSettling → (q p : AbstractPort) → StandsFor q p → (until : Option ℕ) → end_alerts until q ≡ end_alerts until p
@@ -207,21 +163,19 @@ module _ {H : Type 0} (alerted : List Alert → H → H → Type 0) where
     abbrev there : AbstractPort
     there = port_after (events_of reading.requests) p
 
-    -- a walk that ended early
-    pub watched_early : {S W : Type 0} (heard cut : Hearing S W) (q : AbstractPort) (s t : S) (w v : W) (k : H) (x : Result (Unit {0}) (Fault BadLine)) (fault : Fault BadLine) → x ≡ Err fault → Walked {T = Unit {0}} heard cut reading p q (Err fault) s w t v
-        → Watched {T = Unit {0}} alerted told (Err fault) h k → Watched alerted (run_alerts until reading p) x h k
-    watched_early heard cut q s t w v k x fault e walked a = subst (λ (z : Result (Unit {0}) (Fault BadLine)). Watched alerted (run_alerts until reading p) z h k) (sym e) (by fault walked a)
-      where
-        by : (fault : Fault BadLine) → Walked {T = Unit {0}} heard cut reading p q (Err fault) s w t v → Watched {T = Unit {0}} alerted told (Err fault) h k → Watched {T = Unit {0}} alerted (run_alerts until reading p) (Err fault) h k
-        by (Faults.Input fault) (is, heard_all) a = alerts_same alerted told (run_alerts until reading p) h k (sym (ap (λ f. told ++ end_unless until f there) is ∙ append-nil told)) a
-        by Faults.Read walked a = front_of_more alerted told (end_unless until reading.fault there) _ h k refl a
-        by Faults.Write walked a = front_of_more alerted told (end_unless until reading.fault there) _ h k refl a
-        by Faults.Memory walked a = front_of_more alerted told (end_unless until reading.fault there) _ h k refl a
+    -- a walk that ended at a fault of the input, and one that ended early
+    pub watched_fault : (k : H) (x : Result (Unit {0}) (Fault BadLine)) (fault : BadLine) → x ≡ Err (Faults.Input fault) → reading.fault ≡ Some fault → alerted told h k → Watched alerted (run_alerts until reading p) x h k
+    watched_fault k x fault e is a =
+        subst (λ (z : Result (Unit {0}) (Fault BadLine)). Watched alerted (run_alerts until reading p) z h k) (sym e)
+        (alerts_same alerted told (run_alerts until reading p) h k (sym (ap (λ f. told ++ end_unless until f there) is ∙ append-nil told)) a)
 
-    module _ (both : (xs ys : List Alert) (s t u : H) → alerted xs s t → alerted ys t u → alerted (xs ++ ys) s u) (law : IsSettling) (sound : IsSoundPort p) (q : AbstractPort) (k l : H) (none : reading.fault ≡ None) (is : q ≡ settled there) (sound_q : IsSoundPort q)
+    pub watched_front : (k : H) → AlertedFront alerted told h k → AlertedFront alerted (run_alerts until reading p) h k
+    watched_front k a = front_of_more alerted told (end_unless until reading.fault there) _ h k refl a
+
+    module _ (both : (xs ys : List Alert) (s t u : H) → alerted xs s t → alerted ys t u → alerted (xs ++ ys) s u) (law : IsSettling) (q : AbstractPort) (k l : H) (none : reading.fault ≡ None) (stands : StandsFor q there)
         (a : alerted told h k) where
       parts : run_alerts until reading p ≡ told ++ end_alerts until q
-      parts = ap (λ f. told ++ end_unless until f there) none ∙ ap (λ x. told ++ x) (sym (end-alerts-same law q there (stands_after_all law p p (stands_for_itself p sound) (events_of reading.requests) q is sound_q) until))
+      parts = ap (λ f. told ++ end_unless until f there) none ∙ ap (λ x. told ++ x) (sym (end-alerts-same law q there stands until))
 
       pub watched_well : (x : Result (Unit {0}) (Fault BadLine)) (y : Unit {0}) → x ≡ Ok y → alerted (end_alerts until q) k l → Watched alerted (run_alerts until reading p) x h l
       watched_well x y e b = subst (λ (z : Result (Unit {0}) (Fault BadLine)). Watched alerted (run_alerts until reading p) z h l) (sym e) (alerts_same alerted _ _ h l (sym parts) (both told (end_alerts until q) h k l a b))

@@ -3,7 +3,6 @@ pub mod ClockLaws
 pub mod FewLaws
 pub mod FrontLaws
 pub mod GivenLaws
-pub mod HearingLaws
 pub mod LeftLaws
 pub mod LineSteps
 pub mod OutputLaws
@@ -13,6 +12,6 @@ pub mod ReportLaws
 pub mod ScriptEndLaws
 pub mod SeparatedLaws
 pub mod StartsLaws
-pub mod TakenLaws
+pub mod AnsweringLaws
+pub mod TakingLaws
 pub mod WalkSteps
-pub mod WrittenLaws

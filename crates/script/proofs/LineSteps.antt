@@ -1,7 +1,7 @@
 -- The next line in hand, and a port that runs in the place of an abstract one.
+pub use Rattle.script.specs.AnsweredAll.{StandsFor}
 use Rattle.std.proofs.Common.{◌≡◌, ◌≤◌, ℕ, List, [], ◌∷◌, ◌++◌, map, drop, take, length, ◌<◌, ◌+◌, ◌-◌, Option, Some, None, Ok, true, refl, sym, ap, ◌∙◌, subst, arith}
 use Rattle.std.proofs.lemmas.List.{append-nil, drop-drop, length-drop}
-use Rattle.abstract_port.specs.Answers.{port_after}
 use Rattle.abstract_port.specs.declared.Event.TheVariants.{Arrive, Count, Install, Query}
 use Rattle.text.specs.LineReader.{EndsLine, hand, lines_left, script_past}
 use Rattle.text.specs.declared.line_reader.lines.TheConstants.{MAX_LINE_OCTETS}
@@ -48,12 +48,6 @@ end_behind octets rest n short front =
     let within = end_within octets rest front in
     let at : k + n ≡ length octets - length (drop n rest) = omega (arith, length-drop n rest, within, short) in
     ap (drop n) front ∙ drop-drop n k octets ∙ ap (λ j. drop j octets) at
-
--- A port that runs in the place of an abstract one: it keeps of the history what counts.
-pub record StandsFor (q p : AbstractPort) : Type 0 where
-  pub same : q ≡ settled p
-  pub possible : IsPossible p.history p.now
-  pub sound : IsSoundPort q
 
 pub stands_for_itself : (q : AbstractPort) → IsSoundPort q → StandsFor q q
 stands_for_itself q sound = record { same = sym (settled-sound q sound); possible = record { rising = sound.current.rising; past = sound.current.past }; sound = sound }
@@ -124,7 +118,3 @@ module _ (law : IsSettling) (q p : AbstractPort) (s : StandsFor q p) where
   same-ending (Some m) o =
       ap (λ x. lines_of (map Gave x ++ []) ++ end_lines (answers_to (Clock m) q).1 (noted_after (Clock m ∷ []) q o)) (event-answers (Clock m))
       ∙ ap (λ x. lines_of (map Gave (answers_to (Clock m) p).0 ++ []) ++ x) (clocked m o)
-
--- a port after a run stands for the abstract port after it
-pub stands_after_all : IsSettling → (q p : AbstractPort) → StandsFor q p → (events : List Event) (r : AbstractPort) → r ≡ settled (port_after events p) → IsSoundPort r → StandsFor r (port_after events p)
-stands_after_all law q p s events r is sound = record { same = is; possible = (law p (paced q p s) s.possible events).current; sound = sound }

@@ -1,4 +1,4 @@
--- What is written for a script, by what its observer was told.
+-- What is written for a script, by what is told of its requests.
 use Rattle.std.proofs.Common.{◌≡◌, ℕ, List, [], ◌∷◌, ◌++◌, Option, Some, None, Result, Ok, Err, refl, sym, ap, ◌∙◌, subst, append_assoc, append-nil}
 use Rattle.std.specs.Prelude.{IfSome}
 use Rattle.std.specs.Io.KnownBytes.{Appends}
@@ -15,12 +15,15 @@ use Rattle.script.specs.Outcome.{Reading, clock_after}
 use Rattle.script.specs.Told.{told_of, told_to}
 use Rattle.script.specs.ToldLaws.{Lined, LinedFront}
 use Rattle.script.specs.ToldLines.{lines-both, noted-both, noted_told, request-lines, request-seen, requests-lines, told_lines}
-use Rattle.script.specs.Walked.{PutsEnd, Walked}
-use Rattle.script.specs.Words.{AbstractPort, BadLine, Fault, IsSoundPort, Observed, Request, RunsOut, end_lines, ending_text, events_of, lines_of, noted_after, noted_by, outcome_after, responses_to, settled}
+use Rattle.script.specs.AnsweredAll.{AnsweredTo, PutsEnd, StandsFor}
+use Rattle.script.specs.Alerts.{Alert, Watched, run_alerts}
+use Rattle.script.specs.Walked.{Walked}
+use Rattle.script.specs.Words.{AbstractPort, BadLine, Fault, Observed, PortState, Request, RunsOut, end_lines, ending_text, events_of, lines_of, noted_after, noted_by, outcome_after, responses_to, settled}
 use Rattle.script.proofs.LeftLaws.{end-settled}
-use Rattle.script.proofs.LineSteps.{same-ending, stands_after_all, stands_for_itself}
+use Rattle.script.proofs.LineSteps.{same-ending}
 use Rattle.script.proofs.OutputLaws.{events-more, noted-more, outcome-more}
-use Rattle.script.proofs.WrittenLaws.{cut, heard}
+use Rattle.script.proofs.AlertLaws.{watched_fault, watched_front}
+use Rattle.script.proofs.AnsweringLaws.{Cut, Took, WalkedFrom, walked_from}
 
 -- what follows of the lines to come, where the reader says
 pub if_known : {X : Type 0} {P Q : X → Type 0} (o : Option X) → ((x : X) → P x → Q x) → IfSome o P → IfSome o Q
@@ -76,55 +79,76 @@ all_behind old mid new lines more whole e first second = let P : List ℕ → Ty
 
 -- 3. A walk that ended early
 
-module _ {S W : Type 0} (summary : S → Option Observed) (contents : W → Option (List ℕ)) (until : Option ℕ) (reading : Reading) (p q : AbstractPort) (s t : S) (w v : W) where
-  abbrev o : Option Observed
-  o = summary s
-
+module _ (until : Option ℕ) (reading : Reading) (p : AbstractPort) (o n : Option Observed) (a b : Option (List ℕ)) where
   whole : (outcome_after until reading p o).text ≡ told_lines (told_of reading.requests p) ++ tail until reading.fault (port_after (events_of reading.requests) p) (noted_told (told_of reading.requests p) o)
   whole = outcome-told until reading.requests reading.fault p o
 
-  some_front : cut summary contents (told_of reading.requests p) s w t v → AppendsFront (contents w) (contents v) (outcome_after until reading p o).text
-  some_front h = front_before (contents w) (contents v) _ _ _ whole h
+  pub some_front : LinedFront (told_of reading.requests p) a b → AppendsFront a b (outcome_after until reading p o).text
+  some_front h = front_before a b _ _ _ whole h
 
-  early : (fault : Fault BadLine) → Walked {T = Unit {0}} (heard summary contents) (cut summary contents) reading p q (Err fault) s w t v → RunsOut {T = Unit {0}} (Err fault) (contents w) (contents v) (outcome_after until reading p o)
-  early (Faults.Input fault) (is, h) =
-      let P : List ℕ → Type 0 = λ x. Appends (contents w) (contents v) x in
+  pub all_read : (fault : BadLine) → reading.fault ≡ Some fault → Lined (told_of reading.requests p) o a n b → RunsOut {T = Unit {0}} (Err (Faults.Input fault)) a b (outcome_after until reading p o)
+  all_read fault is h =
+      let P : List ℕ → Type 0 = λ x. Appends a b x in
       let none = ap (λ k. told_lines (told_of reading.requests p) ++ tail until k (port_after (events_of reading.requests) p) (noted_told (told_of reading.requests p) o)) is ∙ append-nil (told_lines (told_of reading.requests p)) in
       (is, subst P (sym (whole ∙ none)) h.0)
-  early Faults.Read h = some_front h
-  early Faults.Write h = some_front h
-  early Faults.Memory h = some_front h
 
-  pub ended_early : {x : Result (Unit {0}) (Fault BadLine)} (fault : Fault BadLine) → x ≡ Err fault → Walked {T = Unit {0}} (heard summary contents) (cut summary contents) reading p q (Err fault) s w t v
-      → RunsOut x (contents w) (contents v) (outcome_after until reading p (summary s))
-  ended_early fault e h = subst (λ (y : Result (Unit {0}) (Fault BadLine)). RunsOut y (contents w) (contents v) (outcome_after until reading p o)) (sym e) (early fault h)
+module _ {S W H : Type 0} (alerted : List Alert → H → H → Type 0) (port : S → PortState) (summary : S → Option Observed) (contents : W → Option (List ℕ)) (until : Option ℕ) (reading : Reading) (p : AbstractPort) (s t : S) (w v : W) (h k : H)
+    (stands : StandsFor (port s).port p) (fault : Fault BadLine) {x : Result (Unit {0}) (Fault BadLine)} (is : x ≡ Err fault) (walked : Walked (Took alerted port summary contents) (Cut alerted port summary contents) {T = Unit {0}} reading (Err fault) s w h t v k) where
+  abbrev From : Fault BadLine → Type 0
+  From fault = WalkedFrom alerted p (port t).port (summary s) (summary t) (contents w) (contents v) h k {T = Unit {0}} reading (Err fault)
+
+  from : From fault
+  from = walked_from alerted port summary contents {T = Unit {0}} reading (Err fault) p s t w v h k stands walked
+
+  pub ended_early : RunsOut x (contents w) (contents v) (outcome_after until reading p (summary s))
+  ended_early = subst (λ (y : Result (Unit {0}) (Fault BadLine)). RunsOut y (contents w) (contents v) (outcome_after until reading p (summary s))) (sym is) (by fault from)
+    where
+      front : LinedFront (told_of reading.requests p) (contents w) (contents v) → AppendsFront (contents w) (contents v) (outcome_after until reading p (summary s)).text
+      front f = some_front until reading p (summary s) (summary t) (contents w) (contents v) f
+
+      by : (fault : Fault BadLine) → From fault → RunsOut {T = Unit {0}} (Err fault) (contents w) (contents v) (outcome_after until reading p (summary s))
+      by (Faults.Input fault) f = all_read until reading p (summary s) (summary t) (contents w) (contents v) fault f.0 f.1.lines
+      by Faults.Read f = front f.lines
+      by Faults.Write f = front f.lines
+      by Faults.Memory f = front f.lines
+
+  pub watched_early : Watched alerted (run_alerts until reading p) x h k
+  watched_early = subst (λ (y : Result (Unit {0}) (Fault BadLine)). Watched alerted (run_alerts until reading p) y h k) (sym is) (by fault from)
+    where
+      by : (fault : Fault BadLine) → From fault → Watched {T = Unit {0}} alerted (run_alerts until reading p) (Err fault) h k
+      by (Faults.Input fault) f = watched_fault alerted until reading p h k (Err (Faults.Input fault)) fault refl f.0 f.1.alerts
+      by Faults.Read f = watched_front alerted until reading p h k f.alerts
+      by Faults.Write f = watched_front alerted until reading p h k f.alerts
+      by Faults.Memory f = watched_front alerted until reading p h k f.alerts
 
 -- 4. A whole walk, and the end
 
 -- the text behind a walk that met no fault
-behind_walk : (until : Option ℕ) (reading : Reading) (p q : AbstractPort) (o n : Option Observed) → IsSettling → IsSoundPort p → reading.fault ≡ None → q ≡ settled (port_after (events_of reading.requests) p) → IsSoundPort q
+behind_walk : (until : Option ℕ) (reading : Reading) (p q : AbstractPort) (o n : Option Observed) → IsSettling → reading.fault ≡ None → StandsFor q (port_after (events_of reading.requests) p)
     → n ≡ noted_told (told_of reading.requests p) o → (outcome_after until reading p o).text ≡ told_lines (told_of reading.requests p) ++ ending_text until q n
-behind_walk until reading p q o n law sound none is sound_q seen =
+behind_walk until reading p q o n law none stands seen =
     let told = told_of reading.requests p in
     let there = port_after (events_of reading.requests) p in
     outcome-told until reading.requests reading.fault p o
     ∙ ap (λ k. told_lines told ++ tail until k there (noted_told told o)) none
     ∙ ap (λ x. told_lines told ++ ending_text until there x) (sym seen)
-    ∙ ap (λ x. told_lines told ++ x) (sym (same-ending law q there (stands_after_all law p p (stands_for_itself p sound) (events_of reading.requests) q is sound_q) until n))
+    ∙ ap (λ x. told_lines told ++ x) (sym (same-ending law q there stands until n))
 
-module _ (until : Option ℕ) (reading : Reading) (p q : AbstractPort) (o n : Option Observed) (law : IsSettling) (sound : IsSoundPort p) (old mid new : Option (List ℕ)) where
-  pub ended_well : {x : Result (Unit {0}) (Fault BadLine)} {y : Unit {0}} → x ≡ Ok y → (reading.fault ≡ None) × Lined (told_of reading.requests p) o old n mid × (q ≡ settled (port_after (events_of reading.requests) p)) × IsSoundPort q
-      → Appends mid new (ending_text until q n) → RunsOut x old new (outcome_after until reading p o)
-  ended_well {y = y} e (none, (lines, seen), is, sound_q) done =
+module _ {H : Type 0} (alerted : List Alert → H → H → Type 0) (until : Option ℕ) (reading : Reading) (p q : AbstractPort) (o n : Option Observed) (law : IsSettling) (old mid new : Option (List ℕ)) (h k : H)
+    (walked : (reading.fault ≡ None) × AnsweredTo alerted reading.requests p q o n old mid h k) where
+  behind : (outcome_after until reading p o).text ≡ told_lines (told_of reading.requests p) ++ ending_text until q n
+  behind = behind_walk until reading p q o n law walked.0 walked.1.stands walked.1.lines.1
+
+  pub ended_well : {x : Result (Unit {0}) (Fault BadLine)} {y : Unit {0}} → x ≡ Ok y → Appends mid new (ending_text until q n) → RunsOut x old new (outcome_after until reading p o)
+  ended_well {y = y} e done =
       subst (λ (z : Result (Unit {0}) (Fault BadLine)). RunsOut z old new (outcome_after until reading p o)) (sym e)
-      (none, all_behind old mid new _ _ _ (behind_walk until reading p q o n law sound none is sound_q seen) lines done)
+      (walked.0, all_behind old mid new _ _ _ behind walked.1.lines.0 done)
 
-  pub ended_short : {x : Result (Unit {0}) (Fault BadLine)} (halt : Halt) → x ≡ Err (fault_of_halt halt) → (reading.fault ≡ None) × Lined (told_of reading.requests p) o old n mid × (q ≡ settled (port_after (events_of reading.requests) p)) × IsSoundPort q
-      → AppendsFront mid new (ending_text until q n) → RunsOut x old new (outcome_after until reading p o)
-  ended_short {x} halt e (none, (lines, seen), is, sound_q) done = by halt e
+  pub ended_short : {x : Result (Unit {0}) (Fault BadLine)} (halt : Halt) → x ≡ Err (fault_of_halt halt) → AppendsFront mid new (ending_text until q n) → RunsOut x old new (outcome_after until reading p o)
+  ended_short {x} halt e done = by halt e
     where
       front : AppendsFront old new (outcome_after until reading p o).text
-      front = front_behind old mid new _ _ _ (behind_walk until reading p q o n law sound none is sound_q seen) lines done
+      front = front_behind old mid new _ _ _ behind walked.1.lines.0 done
 
       by : (h : Halt) → x ≡ Err (fault_of_halt h) → RunsOut x old new (outcome_after until reading p o)
       by Halts.Write e = subst (λ (z : Result (Unit {0}) (Fault BadLine)). RunsOut z old new (outcome_after until reading p o)) (sym e) front

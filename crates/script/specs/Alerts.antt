@@ -37,16 +37,21 @@ pub data Alert : Type 0 where
   Stream : ℕ → ℕ → ℕ → Bool → Alert
   Judged : ℕ → ℕ → Option Missed → Alert
 
--- the alert of one thing that an observer is told, if it is one
+-- the alert of one thing that is told, if it is one
 abbrev pub alert_of : Told → List Alert
 alert_of (Answered now (Came frame class) (Answers.Dropped id why)) = Lost now frame why ∷ []
 alert_of (Answered now cause (Answers.Refused why)) = Failed (Failures.Refused why) ∷ []
 alert_of (Misread fault) = Failed (Failures.Malformed fault) ∷ []
 alert_of told = []
 
--- the alerts of what an observer is told
+-- the alerts of what is told
 abbrev pub alerts_of : List Told → List Alert
 alerts_of told = flat_map alert_of told
+
+-- of a frame that comes at a moment, and joins a class or is dropped
+abbrev pub verdict_alert : ℕ → Frame → Result ℕ Dropped → List Alert
+verdict_alert now frame (Ok class) = []
+verdict_alert now frame (Err why) = Lost now frame why ∷ []
 
 -- of the answer to a command
 abbrev pub refused_alert : Result ℕ Refused → List Alert

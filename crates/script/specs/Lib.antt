@@ -1,5 +1,6 @@
 pub mod Alerts
 pub mod Answered
+pub mod AnsweredAll
 pub mod Given
 pub mod Kinds
 pub mod Outcome

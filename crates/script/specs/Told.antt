@@ -1,5 +1,5 @@
--- What an observer of a run is told: the answers of the port and the faults of tc lines, one by one, in order.
-use Rattle.std.specs.Prelude.{ℕ, List, [], ◌∷◌, ◌++◌, Option, Result, Ok, Err}
+-- What is told of a run: the answers of the port and the faults of tc lines, one by one, in order.
+use Rattle.std.specs.Prelude.{ℕ, List, [], ◌∷◌, ◌++◌, Option}
 use Rattle.std.specs.List.{flat_map}
 use Rattle.wire_time.specs.declared.Frame.{Frame}
 use Rattle.abstract_port.specs.AbstractPort.{AbstractPort, class_for}
@@ -9,7 +9,6 @@ use Rattle.abstract_port.specs.declared.Answer.TheVariants.{BadClass}
 use Rattle.abstract_port.specs.declared.Command.{Command}
 use Rattle.abstract_port.specs.declared.Event.{Event}
 use Rattle.abstract_port.specs.declared.Event.TheVariants.{Arrive, Install, Clock, Query, Count}
-use Rattle.job.specs.declared.halt.Halt.{Halt}
 use Rattle.port_text.specs.declared.tc_reader.fault.TcFault.{TcFault}
 use Rattle.script.specs.Requests.{Request, Asks, NoCommand}
 use Rattle.script.specs.Responses.{responses_to}
@@ -51,12 +50,3 @@ told_to (NoCommand fault) p = Misread fault ∷ []
 abbrev pub told_of : List Request → AbstractPort → List Told
 told_of [] p = []
 told_of (request ∷ rest) p = told_to request p ++ told_of rest (responses_to request p).1
-
--- how an observer and its output, by what it was told, come to be as they are
-abbrev pub Hearing : Type 0 → Type 0 → Type 1
-Hearing S W = List Told → S → W → S → W → Type 0
-
--- a call tells this: it was taken in whole, or a front of it where the call failed
-abbrev pub Tells : {S W T : Type 0} → Hearing S W → Hearing S W → List Told → Result T Halt → S → W → S → W → Type 0
-Tells heard cut told (Ok done) s w t v = heard told s w t v
-Tells heard cut told (Err halt) s w t v = cut told s w t v

@@ -1,4 +1,4 @@
--- What the laws of an observer that writes lines need: lists, and nothing of a walk.
+-- Lines that are written of what is told, one after another.
 use Rattle.std.proofs.Common.{◌≡◌, ℕ, List, [], ◌++◌, Option, refl, sym, ap, ◌∙◌, subst, append_assoc}
 use Rattle.std.specs.Io.KnownBytes.{Appends}
 use Rattle.text.specs.Writes.{AppendsFront}

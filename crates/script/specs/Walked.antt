@@ -1,66 +1,75 @@
--- What a walk over a script leaves: its observer has taken in what the abstract port answers to the requests.
-use Rattle.std.specs.Prelude.{◌≡◌, ℕ, List, [], Bool, Option, Some, None, Result, Ok, Err, OnOk}
-use Rattle.std.specs.Io.KnownBytes.{Appends}
-use Rattle.abstract_port.specs.AbstractPort.{AbstractPort, PortState, settled}
-use Rattle.abstract_port.specs.Answers.{port_after}
+-- What a walk over a script leaves: its taker has taken, in order, what the lines ask.
+use Rattle.std.specs.Prelude.{◌≡◌, ◌++◌, ℕ, List, [], Bool, Option, Some, None, Result, Ok, Err}
+use Rattle.abstract_port.specs.AbstractPort.{PortState, settled}
+use Rattle.abstract_port.specs.Answers.{answers_to}
 use Rattle.abstract_port.specs.Sound.{IsSoundPort}
+use Rattle.abstract_port.specs.declared.Event.{Event}
 use Rattle.job.specs.declared.fault.Fault.{Fault}
 use Rattle.job.specs.declared.fault.Fault.TheVariants as Faults
 use Rattle.job.specs.declared.halt.Halt.{Halt}
+use Rattle.job.specs.declared.halt.Halt.TheVariants as Halts
 use Rattle.text.specs.LineReader.{Advances}
 use Rattle.text.specs.Script.{Script}
 use Rattle.text.specs.declared.line_reader.lines.Limit.{Limit}
 use Rattle.text.specs.declared.line_reader.lines.LineFault.TheVariants as LineFaults
-use Rattle.text.specs.Writes.{AppendsFront}
 use Rattle.script.specs.Answered.{HasFewVisits}
-use Rattle.script.specs.Outcome.{Reading, clock_after, long_line}
+use Rattle.script.specs.Outcome.{Reading, long_line}
 use Rattle.script.specs.Requests.{Request}
-use Rattle.script.specs.Responses.{events_of, responses_to}
-use Rattle.script.specs.Told.{Hearing, Tells, told_of, told_to}
 use Rattle.script.specs.declared.faults.BadLine.{BadLine}
 
--- A request is taken: the observer is told of it, and the port is the one after it. Either way no step has looked at more than the commands
--- from before let it.
-pub record IsTaken {S W T : Type 0} (heard cut : Hearing S W) (request : Request) (result : Result T Halt) (p q : PortState) (s : S) (w : W) (t : S) (v : W) : Type 0 where
-  pub told : Tells heard cut (told_to request p.port) result s w t v
-  pub port : OnOk result (q.port ≡ settled (responses_to request p.port).1)
-  pub sound : OnOk result (IsSoundPort q.port)
-  pub few : HasFewVisits p.port p q
+-- 1. A port alone
 
--- Nothing is told of the request, and the port is the one after it.
-pub record IsSilent (request : Request) (p q : PortState) : Type 0 where
-  pub told : told_to request p.port ≡ []
-  pub port : q.port ≡ settled (responses_to request p.port).1
+-- The port answers nothing to the event, and is the one after it.
+pub record IsSilent (event : Event) (p q : PortState) : Type 0 where
+  pub answers : (answers_to event p.port).0 ≡ []
+  pub port : q.port ≡ settled (answers_to event p.port).1
   pub sound : IsSoundPort q.port
   pub few : HasFewVisits p.port p q
 
--- A step to the next line, before which the observer may be told that more input is waited for: a step of the lines, or that call failed.
-abbrev pub StepsHeard : {S W : Type 0} → Hearing S W → Hearing S W → Option Script → Result Bool (Fault BadLine) → ℕ → List ℕ → Option Script → S → W → S → W → Type 0
-StepsHeard heard cut old (Ok more) number line new s w t v = Advances old (Ok more) number line new × heard [] s w t v
-StepsHeard heard cut old (Err (Faults.Input fault)) number line new s w t v =
-    ((n : ℕ) × (limit : Limit) × (fault ≡ long_line n limit) × Advances old (Err (LineFaults.Limit n limit)) number line new) × heard [] s w t v
-StepsHeard heard cut old (Err Faults.Read) number line new s w t v = Advances old (Err LineFaults.Read) number line new × heard [] s w t v
-StepsHeard heard cut old (Err Faults.Write) number line new s w t v = cut [] s w t v
-StepsHeard heard cut old (Err Faults.Memory) number line new s w t v = cut [] s w t v
+-- 2. A taker
 
--- After a walk the observer has taken in, in order, exactly what the port answers to the requests of a script, up to its fault; where a call failed,
--- a front of that. At Ok the port is the one after the requests.
-abbrev pub Walked : {S W T : Type 0} → Hearing S W → Hearing S W → Reading → AbstractPort → AbstractPort → Result T (Fault BadLine) → S → W → S → W → Type 0
-Walked heard cut reading p q (Ok done) s w t v =
-    (reading.fault ≡ None) × heard (told_of reading.requests p) s w t v × (q ≡ settled (port_after (events_of reading.requests) p)) × IsSoundPort q
-Walked heard cut reading p q (Err (Faults.Input fault)) s w t v = (reading.fault ≡ Some fault) × heard (told_of reading.requests p) s w t v
-Walked heard cut reading p q (Err Faults.Read) s w t v = cut (told_of reading.requests p) s w t v
-Walked heard cut reading p q (Err Faults.Write) s w t v = cut (told_of reading.requests p) s w t v
-Walked heard cut reading p q (Err Faults.Memory) s w t v = cut (told_of reading.requests p) s w t v
+-- how a taker, its output and who watches come to be as they are, by what was asked
+abbrev pub Taking : Type 0 → Type 0 → Type 0 → Type 1
+Taking S W H = List Request → S → W → H → S → W → H → Type 0
 
--- After the moment to run to, if there is one, the observer has taken in what the port answers to it.
-pub record WalkedOn {S W T : Type 0} (heard cut : Hearing S W) (until : Option ℕ) (result : Result T Halt) (p q : PortState) (s : S) (w : W) (t : S) (v : W) : Type 0 where
-  pub told : Tells heard cut (told_of (clock_after until) p.port) result s w t v
-  pub port : OnOk result (q.port ≡ settled (port_after (events_of (clock_after until)) p.port))
-  pub sound : OnOk result (IsSoundPort q.port)
-  pub few : HasFewVisits p.port p q
+-- and where a call couldn't go on in it
+abbrev pub Halting : Type 0 → Type 0 → Type 0 → Type 1
+Halting S W H = List Request → Halt → S → W → H → S → W → H → Type 0
 
--- the end of a run: the text is written, or a front of it where a call failed
-abbrev pub PutsEnd : {T E : Type 0} → Result T E → Option (List ℕ) → Option (List ℕ) → List ℕ → Type 0
-PutsEnd (Ok done) old new text = Appends old new text
-PutsEnd (Err fault) old new text = AppendsFront old new text
+module _ {S W H : Type 0} (took : Taking S W H) (cut : Halting S W H) where
+  -- a call takes these requests: in whole, or a front of them where it couldn't go on
+  abbrev pub Takes : {T : Type 0} → List Request → Result T Halt → S → W → H → S → W → H → Type 0
+  Takes requests (Ok done) s w h t v k = took requests s w h t v k
+  Takes requests (Err halt) s w h t v k = cut requests halt s w h t v k
+
+  -- the first of these requests were taken
+  pub record TakesFirst (requests : List Request) (s : S) (w : W) (h : H) (t : S) (v : W) (k : H) : Type 0 where
+    pub first : List Request
+    pub rest : List Request
+    pub parts : requests ≡ first ++ rest
+    pub taken : took first s w h t v k
+
+  -- in the first of them a call couldn't go on
+  pub record HaltsIn (requests : List Request) (halt : Halt) (s : S) (w : W) (h : H) (t : S) (v : W) (k : H) : Type 0 where
+    pub first : List Request
+    pub rest : List Request
+    pub parts : requests ≡ first ++ rest
+    pub halted : cut first halt s w h t v k
+
+  -- A step to the next line, before which the taker may be told that more input is waited for: a step of the lines, or that call failed.
+  abbrev pub StepsTaken : Option Script → Result Bool (Fault BadLine) → ℕ → List ℕ → Option Script → S → W → H → S → W → H → Type 0
+  StepsTaken old (Ok more) number line new s w h t v k = Advances old (Ok more) number line new × took [] s w h t v k
+  StepsTaken old (Err (Faults.Input fault)) number line new s w h t v k =
+      ((n : ℕ) × (limit : Limit) × (fault ≡ long_line n limit) × Advances old (Err (LineFaults.Limit n limit)) number line new) × took [] s w h t v k
+  StepsTaken old (Err Faults.Read) number line new s w h t v k = Advances old (Err LineFaults.Read) number line new × took [] s w h t v k
+  StepsTaken old (Err Faults.Write) number line new s w h t v k = cut [] Halts.Write s w h t v k
+  StepsTaken old (Err Faults.Memory) number line new s w h t v k = cut [] Halts.Memory s w h t v k
+
+  -- After a walk the taker has taken, in order, the requests of a script, up to its fault; the first of them where a read failed, or a call
+  -- couldn't go on.
+  abbrev pub Walked : {T : Type 0} → Reading → Result T (Fault BadLine) → S → W → H → S → W → H → Type 0
+  Walked reading (Ok done) s w h t v k = (reading.fault ≡ None) × took reading.requests s w h t v k
+  Walked reading (Err (Faults.Input fault)) s w h t v k = (reading.fault ≡ Some fault) × took reading.requests s w h t v k
+  Walked reading (Err Faults.Read) s w h t v k = TakesFirst reading.requests s w h t v k
+  Walked reading (Err Faults.Write) s w h t v k = HaltsIn reading.requests Halts.Write s w h t v k
+  Walked reading (Err Faults.Memory) s w h t v k = HaltsIn reading.requests Halts.Memory s w h t v k

@@ -1,13 +1,14 @@
 //! What a port answers to the lines of a script, written as it comes.
 
 ghost use Rattle.std.specs.Prelude.{ℕ, List, Option, Result, [], ◌≡◌, ◌<◌, ◌≤◌, length, OnOk};
-ghost use Rattle.script.specs.Alerts.{Alerting, alerts_from, left_alert};
+ghost use Rattle.script.specs.Alerts.{Alerting, alerts_from, alerts_of, left_alert};
+ghost use Rattle.script.specs.Told.{told_to};
 ghost use Rattle.script.specs.Words.{queue_of, IsSoundPort, Command, Writes, HasFewVisits, IsAnswered, Asks, tc_request, left_lines, left_text, IsReader, TcFault, greatest_moment, words_of, Observed};
 ghost use Rattle.abstract_port.specs.declared.Event.TheVariants as Events;
 
 use crate::script_line::read_tc_into;
 use crate::watch::{Failure, Watch, tell_command};
-use abstract_port::{Command, Dropped, Event};
+use abstract_port::{Command, Event};
 use jumping::Jumping;
 use port::Port;
 use port_text::answer_text::{
@@ -24,15 +25,7 @@ use wire_time::{CLASSES, Frame, MAX_MOMENT};
 /// The port that runs. Another implementation of the gates takes the place of this one here.
 pub type RunningPort<A> = Port<Jumping, A>;
 
-/// Calls who watches where a frame that comes at this moment, in picoseconds, is dropped.
-#[inline(always)]
-fn tell_drop<H: Watch>(watch: &mut H, moment: u128, frame: &Frame, verdict: Result<u8, Dropped>) {
-    if let Err(why) = verdict {
-        watch.frame_dropped(moment, frame, why);
-    }
-}
-
-/// Takes a frame that arrives, and writes the answer. Who watches is called where it is dropped.
+/// Takes a frame that arrives, and writes the answer. Who watches is called where it is queued, and where it is dropped.
 #[inline(always)]
 fn put_frame<A: Allocator, W: PutLine, H: Watch>(
     port: &mut RunningPort<A>,
@@ -41,14 +34,24 @@ fn put_frame<A: Allocator, W: PutLine, H: Watch>(
     writer: &mut W,
     watch: &mut H,
 ) -> Result<(), WriteFault>
-    ensures { IsAnswered (Asks (Events.Arrive frame.now)) result (W.contents writer.old)
+    ensures answered { IsAnswered (Asks (Events.Arrive frame.now)) result (W.contents writer.old)
         (W.contents writer.new) port.old port.new summary.old summary.new }
+    ensures alerts { H.alerted
+        (alerts_of (told_to (Asks (Events.Arrive frame.now)) port.old.port)) watch.old watch.new }
 {
     let now = port.now();
-    let verdict = port.arrive(*frame);
-    tell_drop(watch, now, frame, verdict);
-    note_verdict(summary, now, frame, verdict);
-    put_arrival(writer, frame, verdict)
+    match port.arrive(*frame) {
+        Ok(class) => {
+            watch.frame_came(now);
+            note_verdict(summary, now, frame, Ok(class));
+            put_arrival(writer, frame, Ok(class))
+        }
+        Err(why) => {
+            watch.frame_dropped(now, frame, why);
+            note_verdict(summary, now, frame, Err(why));
+            put_arrival(writer, frame, Err(why))
+        }
+    }
 }
 
 /// Runs to a moment that is not refused, in picoseconds, and writes the starts before it as the port finds them. The
@@ -84,8 +87,10 @@ fn put_install<A: Allocator, W: PutLine, H: Watch>(
     writer: &mut W,
     watch: &mut H,
 ) -> Result<(), WriteFault>
-    ensures { IsAnswered (Asks (Events.Install command.entry)) result (W.contents writer.old)
+    ensures answered { IsAnswered (Asks (Events.Install command.entry)) result (W.contents writer.old)
         (W.contents writer.new) port.old port.new summary.old summary.new }
+    ensures alerts { H.alerted
+        (alerts_of (told_to (Asks (Events.Install command.entry)) port.old.port)) watch.old watch.new }
 {
     let now = port.now();
     let answer = port.install(command);
@@ -96,7 +101,7 @@ fn put_install<A: Allocator, W: PutLine, H: Watch>(
 
 /// Takes a clock event, with its moment in picoseconds, and writes the answers to it.
 #[inline(always)]
-fn put_clock<A: Allocator, W: PutLine>(
+pub(crate) fn put_clock<A: Allocator, W: PutLine>(
     port: &mut RunningPort<A>,
     summary: &mut Option<Summary<A>>,
     until: u128,
@@ -149,7 +154,7 @@ fn put_count<A: Allocator, W: PutLine>(
 
 /// Takes an event, and writes the answers to it as they come, each noted where a summary is wanted. At a fault a prefix
 /// of them is written. The digits of the moments of the last start are kept from event to event. Who watches is called
-/// where a frame is dropped, or a command refused.
+/// for each frame that comes, and for each command.
 #[inline(always)]
 pub fn put_answers<A: Allocator, W: PutLine, H: Watch>(
     moments: &mut NearNumbers,
@@ -159,8 +164,10 @@ pub fn put_answers<A: Allocator, W: PutLine, H: Watch>(
     writer: &mut W,
     watch: &mut H,
 ) -> Result<(), WriteFault>
-    ensures { IsAnswered (Asks event.now) result (W.contents writer.old)
+    ensures answered { IsAnswered (Asks event.now) result (W.contents writer.old)
         (W.contents writer.new) port.old port.new summary.old summary.new }
+    ensures alerts { H.alerted
+        (alerts_of (told_to (Asks event.now) port.old.port)) watch.old watch.new }
 {
     match event {
         Event::Arrive(frame) => put_frame(port, summary, frame, writer, watch),
@@ -181,8 +188,10 @@ fn put_command<A: Allocator, W: PutLine, H: Watch>(
     writer: &mut W,
     watch: &mut H,
 ) -> Result<(), WriteFault>
-    ensures { IsAnswered (tc_request read.now) result (W.contents writer.old)
+    ensures answered { IsAnswered (tc_request read.now) result (W.contents writer.old)
         (W.contents writer.new) port.old port.new summary.old summary.new }
+    ensures alerts { H.alerted
+        (alerts_of (told_to (tc_request read.now) port.old.port)) watch.old watch.new }
 {
     // For the prover: a call on a port says what holds of every port.
     let _now = port.now();
@@ -211,6 +220,10 @@ pub fn put_tc<A: Allocator, W: PutLine, H: Watch>(
     ensures answered { (read : List (List ℕ) → Result Command TcFault) → IsReader read →
         IsAnswered (tc_request (read (words_of line.now))) result (W.contents writer.old)
         (W.contents writer.new) port.old port.new summary.old summary.new }
+    ensures alerts { (read : List (List ℕ) → Result Command TcFault) → IsReader read →
+        H.alerted
+        (alerts_of
+        (told_to (tc_request (read (words_of line.now))) port.old.port)) watch.old watch.new }
     ensures sound { OnOk result (IsSoundPort port.new.port) }
     ensures few { HasFewVisits port.old.port port.old port.new }
 {

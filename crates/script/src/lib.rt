@@ -4,12 +4,12 @@
 //! `run_script` and `answer_script` cite it.
 #![tactic(auto)]
 
-mod answer_lines;
+mod answering;
 mod answers;
+mod event_taker;
 mod faults;
 mod fronts;
 pub mod laws;
-mod observer;
 mod plain;
 mod script_job;
 mod script_line;
@@ -19,16 +19,15 @@ mod settings;
 mod summary_lines;
 mod watch;
 
-pub use answer_lines::AnswerLines;
 pub use answers::{RunningPort, put_answers, put_tc};
+pub use event_taker::EventTaker;
 pub use faults::{
     BadLine, RunFault, ScriptFault, limit_fault, put_line_fault, put_value, say_value,
 };
-pub use observer::Observer;
 pub use script_job::{Values, answer_script, end_with_value, settings_given};
-pub use script_line::{Said, read_line, read_tc};
+pub use script_line::{Said, read_line, read_tc, read_tc_into};
 pub use script_run::run_script;
-pub use script_walk::{take, take_tc, walk, walk_on};
+pub use script_walk::{rests, walk};
 pub use settings::{BadValue, Settings};
 pub use summary_lines::put_end;
 pub use watch::{Basis, Failure, Missed, Sharers, Shares, Unwatched, Watch, tell_command};

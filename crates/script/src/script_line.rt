@@ -190,7 +190,7 @@ pub fn read_tc(line: &[u8]) -> Result<Command, TcFault>
 }
 
 /// Puts the command that a line is, or its first fault, in place of another answer.
-pub(crate) fn read_tc_into(line: &[u8], place: &mut CommandPlace)
+pub fn read_tc_into(line: &[u8], place: &mut CommandPlace)
     ensures { (read : List (List ℕ) → Result Command TcFault) → IsReader read →
         place.new.answer ≡ read (words_of line.now) }
 {

@@ -2,14 +2,14 @@
 
 ghost use Rattle.std.specs.Prelude.{ℕ, List, Result, IfSome};
 ghost use Rattle.script.specs.Alerts.{Alerting, IsWatchedRun, Watched, alerts_from, end_alerts, run_alerts};
-ghost use Rattle.script.specs.Walked.{PutsEnd};
+ghost use Rattle.script.specs.AnsweredAll.{PutsEnd};
 ghost use Rattle.script.specs.Words.{Command, Writes, script_left, TcFault, RunsOut, IsFaithfulTo, end_lines, ending_text, outcome_from, outcome_of, reading_of, IsReader};
 
-use crate::answer_lines::AnswerLines;
+use crate::answering::Answering;
 use crate::answers::RunningPort;
 use crate::faults::RunFault;
 use crate::laws::faithful;
-use crate::script_walk::{walk, walk_on};
+use crate::script_walk::walk;
 use crate::settings::Settings;
 use crate::summary_lines::put_end;
 use crate::watch::Watch;
@@ -40,25 +40,23 @@ fn put_end_now<A: Allocator, W: PutLine, H: Watch>(
 /// Runs to the moment after the input, if there is one, and writes the answers, then how many frames are left, and the
 /// summary where one is wanted.
 fn end<A: Allocator, W: PutLine, H: Watch>(
-    port: &mut RunningPort<A>,
-    answers: &mut AnswerLines<A>,
+    answering: &mut Answering<A>,
     until: Option<u128>,
     writer: &mut W,
     watch: &mut H,
 ) -> Result<(), Halt>
     ensures alerts { Alerting H.alerted
-        (end_alerts until port.old.port) result watch.old watch.new }
+        (end_alerts until answering.old.port.port) result watch.old watch.new }
     ensures text { PutsEnd result (W.contents writer.old) (W.contents writer.new)
-        (ending_text until port.old.port answers.old.summary) }
+        (ending_text until answering.old.port.port answering.old.summary) }
 {
-    walk_on(port, answers, until, writer)?;
-    halted(put_end_now(port, &answers.summary, writer, watch))
+    answering.go_on(until, writer)?;
+    halted(put_end_now(&answering.port, &answering.summary, writer, watch))
 }
 
 /// Runs the lines that are to come, and the end.
 fn run_lines<A: Allocator, B: Allocator, R: Read + Drop, W: PutLine, H: Watch>(
-    port: &mut RunningPort<A>,
-    answers: &mut AnswerLines<A>,
+    answering: &mut Answering<A>,
     lines: &mut LineReader<R, B>,
     until: Option<u128>,
     writer: &mut W,
@@ -67,17 +65,17 @@ fn run_lines<A: Allocator, B: Allocator, R: Read + Drop, W: PutLine, H: Watch>(
     ensures script { (read : List (List ℕ) → Result Command TcFault) → IsReader read →
         IfSome (script_left R.remaining lines.old)
         (λ script. RunsOut result (W.contents writer.old) (W.contents writer.new)
-        (outcome_from read until script port.old.port answers.old.summary)) }
+        (outcome_from read until script answering.old.port.port answering.old.summary)) }
     ensures watched { (read : List (List ℕ) → Result Command TcFault) → IsReader read →
         IfSome (script_left R.remaining lines.old)
         (λ script. Watched H.alerted
-        (run_alerts until (reading_of read script) port.old.port) result watch.old watch.new) }
+        (run_alerts until (reading_of read script) answering.old.port.port) result watch.old watch.new) }
 {
     settling();
     // For the prover: a call on a port says what holds of every port.
-    let _now = port.now();
-    walk(port, answers, lines, writer, watch)?;
-    end(port, answers, until, writer, watch)?;
+    let _now = answering.port.now();
+    walk(answering, lines, writer, watch)?;
+    end(answering, until, writer, watch)?;
     Ok(())
 }
 
@@ -113,20 +111,13 @@ pub fn run_script<A: Allocator, R: Read + Drop, W: PutLine, H: Watch>(
     // For the prover: the getter says within which limits a rate lies.
     let _ps = rate.ps_per_octet();
     let mtu = settings.mtu();
-    let Ok(mut port) = RunningPort::new(&alloc, rate, mtu, settings.room()) else {
+    let Ok(port) = RunningPort::new(&alloc, rate, mtu, settings.room()) else {
         return Err(RunFault::Memory);
     };
     let Ok(summary) = summary_wanted(&&alloc, settings.summary(), settings.room()) else {
         return Err(RunFault::Memory);
     };
-    let mut answers = AnswerLines::new(summary);
+    let mut answering = Answering::new(port, summary);
     let mut lines = LineReader::new(&alloc, reader)?;
-    run_lines(
-        &mut port,
-        &mut answers,
-        &mut lines,
-        settings.until(),
-        writer,
-        watch,
-    )
+    run_lines(&mut answering, &mut lines, settings.until(), writer, watch)
 }

@@ -33,9 +33,9 @@ pub returns-clause-script : goal.returns-clause-script
 returns-clause-script g c = λ read is.
     let s = c.args.settings in
     let W : AbstractPort → Option Observed → Option ℕ → Type 0 = λ p o until. IfSome (script_left g.R.Read.remaining c.in_ok-lines.lines) (λ script. RunsOut c.run_lines.result (g.W.Write.contents c.args.writer.now) (g.W.Write.contents c.run_lines.new.writer) (outcome_from read until script p o)) in
-    let P : PortState → Type 0 = λ p. W p.port c.new-answers.result.summary c.until.result in
-    let seen = c.new-answers.ensures ∙ c.in-Ok-summary_wanted.ensures ∙ (ap (λ wanted. watched wanted c.room-2.result) c.summary.ensures ∙ ap (λ room. watched s.summary room) c.room-2.ensures.value) in
-    let whole = by_settings W s c.rate-rate.result c.mtu-mtu.result c.room.result c.new-answers.result.summary c.until.result c.rate-rate.ensures c.mtu-mtu.ensures.value c.room.ensures.value seen c.until.ensures.value (subst P c.in-Ok.ensures.ok (c.run_lines.ensures.script read is)) in
+    let P : PortState → Type 0 = λ p. W p.port c.new-answering.result.summary c.until.result in
+    let seen = c.new-answering.ensures.summary ∙ c.in-Ok-summary_wanted.ensures ∙ (ap (λ wanted. watched wanted c.room-2.result) c.summary.ensures ∙ ap (λ room. watched s.summary room) c.room-2.ensures.value) in
+    let whole = by_settings W s c.rate-rate.result c.mtu-mtu.result c.room.result c.new-answering.result.summary c.until.result c.rate-rate.ensures c.mtu-mtu.ensures.value c.room.ensures.value seen c.until.ensures.value (subst P (c.new-answering.ensures.port ∙ c.in-Ok.ensures.ok) (c.run_lines.ensures.script read is)) in
     of_input (g.R.Read.remaining c.args.reader) _ _ c.in_ok-lines.ensures.left whole
 
 pub returns-in_default-clause-watched : goal.returns-in_default-clause-watched
@@ -53,7 +53,7 @@ pub returns-clause-watched : goal.returns-clause-watched
 returns-clause-watched g c = λ read is.
     let s = c.args.settings in
     let W : AbstractPort → Option Observed → Option ℕ → Type 0 = λ p o until. IfSome (script_left g.R.Read.remaining c.in_ok-lines.lines) (λ script. Watched g.H.Watch.alerted (run_alerts until (reading_of read script) p) c.run_lines.result c.args.watch.now c.run_lines.new.watch) in
-    let P : PortState → Type 0 = λ p. W p.port c.new-answers.result.summary c.until.result in
-    let seen = c.new-answers.ensures ∙ c.in-Ok-summary_wanted.ensures ∙ (ap (λ wanted. watched wanted c.room-2.result) c.summary.ensures ∙ ap (λ room. watched s.summary room) c.room-2.ensures.value) in
-    let whole = by_settings W s c.rate-rate.result c.mtu-mtu.result c.room.result c.new-answers.result.summary c.until.result c.rate-rate.ensures c.mtu-mtu.ensures.value c.room.ensures.value seen c.until.ensures.value (subst P c.in-Ok.ensures.ok (c.run_lines.ensures.watched read is)) in
+    let P : PortState → Type 0 = λ p. W p.port c.new-answering.result.summary c.until.result in
+    let seen = c.new-answering.ensures.summary ∙ c.in-Ok-summary_wanted.ensures ∙ (ap (λ wanted. watched wanted c.room-2.result) c.summary.ensures ∙ ap (λ room. watched s.summary room) c.room-2.ensures.value) in
+    let whole = by_settings W s c.rate-rate.result c.mtu-mtu.result c.room.result c.new-answering.result.summary c.until.result c.rate-rate.ensures c.mtu-mtu.ensures.value c.room.ensures.value seen c.until.ensures.value (subst P (c.new-answering.ensures.port ∙ c.in-Ok.ensures.ok) (c.run_lines.ensures.watched read is)) in
     of_input (g.R.Read.remaining c.args.reader) _ _ c.in_ok-lines.ensures.left whole

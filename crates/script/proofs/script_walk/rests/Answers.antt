@@ -1,9 +1,8 @@
-use Rattle.std.proofs.Common.{◌≤◌, arith, None, sym, ap, subst}
-use Rattle.script.specs.Told.{Otherwise, told_answers}
-use Rattle.script.specs.Walked.{IsSilent}
-use Rattle.script.specs.Words.{Asks, Event}
-use Rattle.script.proofs.ClockLaws.{start_none}
+use Rattle.std.proofs.Common.{◌≤◌, arith, None, sym, subst}
 use Rattle.std.proofs.Common.{refl}
+use Rattle.script.specs.Walked.{IsSilent}
+use Rattle.script.specs.Words.{Event}
+use Rattle.script.proofs.ClockLaws.{start_none}
 use Rattle.script.proofs.script_walk.rests.Goals as goal
 
 pub returns-clause-rests : goal.returns-clause-rests
@@ -13,9 +12,9 @@ returns-clause-rests g c = λ silent.
     let p = c.args.port.now.port in
     let later = subst (λ n. n ≤ until) c.now.ensures.now c.if-until-now.false in
     let none = start_none until p c.rest_until.new.self.port c.now.ensures.sound later c.if-until-gt-MAX_MOMENT.false None (sym (e.start silent)) (e.port silent) e.sound refl in
-    let P : Event → Type 0 = λ event. IsSilent (Asks event) c.args.port.now c.rest_until.new.self in
+    let P : Event → Type 0 = λ event. IsSilent event c.args.port.now c.rest_until.new.self in
     subst P (sym c.in-Clock.is) (record {
-      told = ap (told_answers p.now Otherwise) none.0;
+      answers = none.0;
       port = none.1;
       sound = e.sound;
       few = (let none_seen = e.visits silent in omega (arith, none_seen));
