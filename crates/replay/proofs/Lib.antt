@@ -1,3 +1,4 @@
+pub mod ByEventsLaws
 pub mod ArrivalLaws
 pub mod EndLaws
 pub mod KeepLaws

@@ -1,4 +1,5 @@
 pub mod Beside
+pub mod ByEvents
 pub mod Faults
 pub mod KeptScript
 pub mod Kinds

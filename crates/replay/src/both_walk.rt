@@ -13,6 +13,7 @@ use crate::lines::line_by;
 use crate::shifts::{Shift, moved_moment};
 use crate::taker::Taker;
 use capture::{CAPTURE_END, CapFault, CaptureReader, RecordHeader};
+use script::Watch;
 use std::alloc::Allocator;
 use std::io::Read;
 
@@ -29,7 +30,7 @@ fn found(number: u32, fault: CapFault) -> Result<Option<(u32, CapFault)>, Stop>
 /// Lets out what was written where no record stands whole in hand, so that whoever waits for it has it before more of
 /// the capture is waited for. Apart, since one mostly stands whole in hand.
 #[inline(never)]
-fn let_out_before<C: Allocator, R: Read, W, H, T: Taker<W, H>>(
+fn let_out_before<C: Allocator, R: Read, W, H: Watch, T: Taker<W, H>>(
     records: &CaptureReader<R, C>,
     taker: &mut T,
     out: &mut W,
@@ -51,7 +52,7 @@ fn let_out_before<C: Allocator, R: Read, W, H, T: Taker<W, H>>(
 
 /// Goes on to the next record, once what was written is let out where none stands whole in hand; its header.
 #[inline(always)]
-fn advance<C: Allocator, R: Read, W, H, T: Taker<W, H>>(
+fn advance<C: Allocator, R: Read, W, H: Watch, T: Taker<W, H>>(
     records: &mut CaptureReader<R, C>,
     taker: &mut T,
     out: &mut W,
@@ -80,7 +81,7 @@ fn advance<C: Allocator, R: Read, W, H, T: Taker<W, H>>(
 
 /// Takes the lines up to a moment that are to come.
 #[inline(always)]
-fn take_lines<B: Allocator, W, H, T: Taker<W, H>>(
+fn take_lines<B: Allocator, W, H: Watch, T: Taker<W, H>>(
     taker: &mut T,
     script: &KeptScript<B>,
     cursor: &mut Cursor,
@@ -110,7 +111,7 @@ fn take_lines<B: Allocator, W, H, T: Taker<W, H>>(
 /// lines are left. The number of the record at which the capture ends with a fault, and the fault: `BadShift` of one that
 /// can't be moved so.
 #[inline(always)]
-fn take_records<B: Allocator, C: Allocator, R: Read, W, H, T: Taker<W, H>>(
+fn take_records<B: Allocator, C: Allocator, R: Read, W, H: Watch, T: Taker<W, H>>(
     taker: &mut T,
     script: &KeptScript<B>,
     cursor: &mut Cursor,
@@ -146,6 +147,7 @@ fn take_records<B: Allocator, C: Allocator, R: Read, W, H, T: Taker<W, H>>(
         take_lines(taker, script, cursor, latest, out, watch)?;
         taker.take_record(latest, number, &record, out, watch)?;
         number += 1;
+        watch.records_taken(number, latest);
     }
 }
 
@@ -154,7 +156,7 @@ fn take_records<B: Allocator, C: Allocator, R: Read, W, H, T: Taker<W, H>>(
 /// after the last record, also one after which the capture ends with a fault, the other lines. What was written is let
 /// out before more of the capture is waited for. The number of the record at which the capture ends with a fault, and the
 /// fault: `BadShift` of one that can't be moved so.
-pub fn walk_both<B: Allocator, C: Allocator, R: Read, W, H, T: Taker<W, H>>(
+pub fn walk_both<B: Allocator, C: Allocator, R: Read, W, H: Watch, T: Taker<W, H>>(
     taker: &mut T,
     script: &KeptScript<B>,
     records: &mut CaptureReader<R, C>,

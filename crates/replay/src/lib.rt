@@ -5,6 +5,7 @@
 #![tactic(auto)]
 
 mod both_walk;
+mod by_events;
 mod cursor;
 mod end_lines;
 mod faults;
@@ -26,6 +27,7 @@ mod texts;
 mod timing;
 
 pub use both_walk::walk_both;
+pub use by_events::ByEvents;
 pub use cursor::Cursor;
 pub use faults::{ReplayFault, ReplayInput, Stop};
 pub use kept_script::{KeptLine, KeptScript};

@@ -169,7 +169,6 @@ impl<A: Allocator + Clone, V: PutLine, W: PutLine, P: Watch> Taker<Outputs<V, W>
         watch: &mut P,
     ) -> Result<(), Stop> {
         put_record(self, moment, number, record, out, watch)?;
-        watch.records_taken(number.saturating_add(1), moment);
         Ok(())
     }
 
@@ -193,4 +192,6 @@ impl<A: Allocator + Clone, V: PutLine, W: PutLine, P: Watch> Taker<Outputs<V, W>
 
     ghost cut_unread = { λ es xs ys s t w v h k. beside_unread es xs ys
         (state_of V.contents W.contents s w) (state_of V.contents W.contents t v) };
+
+    ghost untold = { λ es s w h k told. beside_none es (state_of V.contents W.contents s w) };
 }

@@ -9,10 +9,11 @@ ghost use Rattle.replay.specs.declared.faults.Stop.TheVariants as Stops;
 use crate::faults::Stop;
 use crate::kept_script::KeptLine;
 use capture::Record;
+use script::Watch;
 
 /// Who takes what a script and a capture ask, one request after another, and makes of it what a job is for: the port is
-/// its own. What is made may be written to `out`; who watches is called as for a replay. A fault ends the run.
-pub trait Taker<W, H> {
+/// its own. What is made may be written to `out`; who watches is called for what it is to know. A fault ends the run.
+pub trait Taker<W, H: Watch> {
     /// Requests can be taken.
     ghost ready: { Self → Type 0 };
 
@@ -81,4 +82,8 @@ pub trait Taker<W, H> {
     /// A read failed.
     ghost cut_unread: { (es : List Entry) (xs ys : List Request) (s t : Self) (w v : W) (h k : H)
         → took es xs s w h t v k → cut es (xs ++ ys) Stops.Read s w h t v k };
+
+    /// Who watches was told of nothing that counts.
+    ghost untold: { (es : List Entry) (s : Self) (w : W) (h k : H) → H.alerted [] h k
+        → took es [] s w h s w k };
 }

@@ -44,7 +44,8 @@ records-preserved g c =
       stands = λ read is es last comes.
           let st = let_out g.T.Taker.took g.T.Taker.cut (i.stands read is es last comes) g.met.T.Taker.both _ _ _ (c.in_ok-advance.ensures.taken es) in
           stands_next g.T.Taker.took g.T.Taker.cut st after i.going e p c.in-Some.moment shifts c.max-latest.ensures g.met.T.Taker.both _ _ _ _ _ _ _
-          (c.in_ok-take_lines.ensures.left read is) (c.in_ok-take_lines.ensures.taken read is es) (c.in_ok-take_record.ensures.taken es);
+          (c.in_ok-take_lines.ensures.left read is) (c.in_ok-take_lines.ensures.taken read is es)
+          (λ its. g.met.T.Taker.both es _ [] _ _ _ _ _ _ _ _ _ (c.in_ok-take_record.ensures.taken es its) (g.met.T.Taker.untold es _ _ _ _ c.records_taken.ensures));
     }
 
 pub returns-in_err-take_lines-clause-taken : goal.returns-in_err-take_lines-clause-taken

@@ -23,7 +23,7 @@ returns-in_err-put_answers-in-Query-clause-answers g c = λ read is es k.
     let t = at c.put_answers.new.port.port s.store c.put_answers.new.summary s.stamping (g.V.Write.contents c.put_answers.new.writer) (g.W.Write.contents c.args.outputs.now.departures) in
     let P : KeptLine → Type 0 = λ l. Answers es r (kept_request read c.args.octets.now l ∷ []) s t in
     subst P (sym c.in-Query.is)
-    (told_short es (Asks Events.Query) p t.port s.store s.seen t.seen s.stamping (g.V.Write.contents c.args.outputs.now.report) (g.V.Write.contents c.put_answers.new.writer) (g.W.Write.contents c.args.outputs.now.departures) (silent_query es p) r e.1 (c.in_err-put_answers-in-Query.ensures.text))
+    (told_short es (Asks Events.Query) p t.port s.store s.seen t.seen s.stamping (g.V.Write.contents c.args.outputs.now.report) (g.V.Write.contents c.put_answers.new.writer) (g.W.Write.contents c.args.outputs.now.departures) (silent_query es p) r e.1 (c.in_err-put_answers-in-Query.ensures.answered.text))
 
 pub returns-in_ok-put_answers-in-Query-clause-answers : goal.returns-in_ok-put_answers-in-Query-clause-answers
 returns-in_ok-put_answers-in-Query-clause-answers g c = λ read is es k.
@@ -32,14 +32,14 @@ returns-in_ok-put_answers-in-Query-clause-answers g c = λ read is es k.
     let t = at c.put_answers.new.port.port s.store c.put_answers.new.summary s.stamping (g.V.Write.contents c.put_answers.new.writer) (g.W.Write.contents c.args.outputs.now.departures) in
     let P : KeptLine → Type 0 = λ l. Answers {T = Unit {0}} es (Ok tt) (kept_request read c.args.octets.now l ∷ []) s t in
     subst P (sym c.in-Query.is)
-    (told_line es (Asks Events.Query) p t.port s.store s.seen t.seen s.stamping (g.V.Write.contents c.args.outputs.now.report) (g.V.Write.contents c.put_answers.new.writer) (g.W.Write.contents c.args.outputs.now.departures) (silent_query es p) tt (c.in_ok-put_answers-in-Query.ensures.text) (c.in_ok-put_answers-in-Query.ensures.port) (c.in_ok-put_answers-in-Query.ensures.seen) k)
+    (told_line es (Asks Events.Query) p t.port s.store s.seen t.seen s.stamping (g.V.Write.contents c.args.outputs.now.report) (g.V.Write.contents c.put_answers.new.writer) (g.W.Write.contents c.args.outputs.now.departures) (silent_query es p) tt (c.in_ok-put_answers-in-Query.ensures.answered.text) (c.in_ok-put_answers-in-Query.ensures.answered.port) (c.in_ok-put_answers-in-Query.ensures.answered.seen) k)
 
 pub returns-in_ok-put_answers-in-Query-clause-together : goal.returns-in_ok-put_answers-in-Query-clause-together
 returns-in_ok-put_answers-in-Query-clause-together g c =
     let s = state c.args.sending.now (g.V.Write.contents c.args.outputs.now.report) (g.W.Write.contents c.args.outputs.now.departures) in
     let p = s.port in
     let es : Origin = record { entries = []; stamping = s.stamping } in
-    told_together es (Asks Events.Query) p c.put_answers.new.port.port s.store _ _ _ _ _ _ (silent_query es p) (c.in_ok-put_answers-in-Query.ensures.port) c.in_ok-put_answers-in-Query.ensures.sound c.requires.together
+    told_together es (Asks Events.Query) p c.put_answers.new.port.port s.store _ _ _ _ _ _ (silent_query es p) (c.in_ok-put_answers-in-Query.ensures.answered.port) c.in_ok-put_answers-in-Query.ensures.answered.sound c.requires.together
 
 pub returns-in_err-put_answers-in-Count-clause-answers : goal.returns-in_err-put_answers-in-Count-clause-answers
 returns-in_err-put_answers-in-Count-clause-answers g c = λ read is es k.
@@ -50,7 +50,7 @@ returns-in_err-put_answers-in-Count-clause-answers g c = λ read is es k.
     let t = at c.put_answers-in-Count.new.port.port s.store c.put_answers-in-Count.new.summary s.stamping (g.V.Write.contents c.put_answers-in-Count.new.writer) (g.W.Write.contents c.args.outputs.now.departures) in
     let P : KeptLine → Type 0 = λ l. Answers es r (kept_request read c.args.octets.now l ∷ []) s t in
     subst P (sym c.in-Count.is)
-    (told_short es (Asks (Events.Count c.in-Count.class)) p t.port s.store s.seen t.seen s.stamping (g.V.Write.contents c.args.outputs.now.report) (g.V.Write.contents c.put_answers-in-Count.new.writer) (g.W.Write.contents c.args.outputs.now.departures) (silent_count es c.in-Count.class p) r e.1 (c.in_err-put_answers-in-Count.ensures.text))
+    (told_short es (Asks (Events.Count c.in-Count.class)) p t.port s.store s.seen t.seen s.stamping (g.V.Write.contents c.args.outputs.now.report) (g.V.Write.contents c.put_answers-in-Count.new.writer) (g.W.Write.contents c.args.outputs.now.departures) (silent_count es c.in-Count.class p) r e.1 (c.in_err-put_answers-in-Count.ensures.answered.text))
 
 pub returns-in_ok-put_answers-in-Count-clause-answers : goal.returns-in_ok-put_answers-in-Count-clause-answers
 returns-in_ok-put_answers-in-Count-clause-answers g c = λ read is es k.
@@ -59,14 +59,14 @@ returns-in_ok-put_answers-in-Count-clause-answers g c = λ read is es k.
     let t = at c.put_answers-in-Count.new.port.port s.store c.put_answers-in-Count.new.summary s.stamping (g.V.Write.contents c.put_answers-in-Count.new.writer) (g.W.Write.contents c.args.outputs.now.departures) in
     let P : KeptLine → Type 0 = λ l. Answers {T = Unit {0}} es (Ok tt) (kept_request read c.args.octets.now l ∷ []) s t in
     subst P (sym c.in-Count.is)
-    (told_line es (Asks (Events.Count c.in-Count.class)) p t.port s.store s.seen t.seen s.stamping (g.V.Write.contents c.args.outputs.now.report) (g.V.Write.contents c.put_answers-in-Count.new.writer) (g.W.Write.contents c.args.outputs.now.departures) (silent_count es c.in-Count.class p) tt (c.in_ok-put_answers-in-Count.ensures.text) (c.in_ok-put_answers-in-Count.ensures.port) (c.in_ok-put_answers-in-Count.ensures.seen) k)
+    (told_line es (Asks (Events.Count c.in-Count.class)) p t.port s.store s.seen t.seen s.stamping (g.V.Write.contents c.args.outputs.now.report) (g.V.Write.contents c.put_answers-in-Count.new.writer) (g.W.Write.contents c.args.outputs.now.departures) (silent_count es c.in-Count.class p) tt (c.in_ok-put_answers-in-Count.ensures.answered.text) (c.in_ok-put_answers-in-Count.ensures.answered.port) (c.in_ok-put_answers-in-Count.ensures.answered.seen) k)
 
 pub returns-in_ok-put_answers-in-Count-clause-together : goal.returns-in_ok-put_answers-in-Count-clause-together
 returns-in_ok-put_answers-in-Count-clause-together g c =
     let s = state c.args.sending.now (g.V.Write.contents c.args.outputs.now.report) (g.W.Write.contents c.args.outputs.now.departures) in
     let p = s.port in
     let es : Origin = record { entries = []; stamping = s.stamping } in
-    told_together es (Asks (Events.Count c.in-Count.class)) p c.put_answers-in-Count.new.port.port s.store _ _ _ _ _ _ (silent_count es c.in-Count.class p) (c.in_ok-put_answers-in-Count.ensures.port) c.in_ok-put_answers-in-Count.ensures.sound c.requires.together
+    told_together es (Asks (Events.Count c.in-Count.class)) p c.put_answers-in-Count.new.port.port s.store _ _ _ _ _ _ (silent_count es c.in-Count.class p) (c.in_ok-put_answers-in-Count.ensures.answered.port) c.in_ok-put_answers-in-Count.ensures.answered.sound c.requires.together
 
 pub returns-in_err-put_tc-in-Tc-clause-answers : goal.returns-in_err-put_tc-in-Tc-clause-answers
 returns-in_err-put_tc-in-Tc-clause-answers g c = λ read is es k.
