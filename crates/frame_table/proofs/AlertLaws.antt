@@ -1,12 +1,9 @@
 -- What who watches was told, part after part, and where a call failed.
 use Rattle.std.proofs.Common.{◌≡◌, inl, inr, List, [], ◌++◌, Option, Some, None, Result, Ok, Err, refl, sym, subst, append-nil}
 use Rattle.std.specs.Prelude.{IfSome}
-use Rattle.job.specs.Halts.{fault_of_halt}
 use Rattle.job.specs.RunEnd.{IsOrFails}
 use Rattle.job.specs.declared.fault.Fault.{Fault}
 use Rattle.job.specs.declared.fault.Fault.TheVariants as Faults
-use Rattle.job.specs.declared.halt.Halt.{Halt}
-use Rattle.job.specs.declared.halt.Halt.TheVariants as Halts
 use Rattle.script.specs.Alerts.{Alert, AlertedFront, Alerting}
 use Rattle.script.proofs.AlertLaws.{HasAlerted, alerted_all, alerted_more, alerts_same, front_later, front_of_all, front_of_more}
 use Rattle.frame_table.specs.Alerts.{WatchedRun}
@@ -42,14 +39,6 @@ module _ {H : Type 0} (alerted : List Alert → H → H → Type 0) where
     alerting_last all rest h k l (Ok x) g a = alerted_all alerted all [] h l (alerted_more alerted both all rest rest [] h k l g (sym (append-nil rest)) a) refl
     alerting_last all rest h k l (Err x) g f = front_in all rest rest [] h k l g (sym (append-nil rest)) f
 
-    -- two parts
-    pub told_both : (first last all : List Alert) (h k l : H) → all ≡ first ++ last → alerted first h k → alerted last k l → alerted all h l
-    told_both first last all h k l e a b = alerts_same alerted (first ++ last) all h l (sym e) (both first last h k l a b)
-
-    -- the second of two failed
-    pub alerting_behind : {T E : Type 0} (first last all : List Alert) (h k l : H) (r : Result T E) (fault : E) → r ≡ Err fault → all ≡ first ++ last → alerted first h k → AlertedFront alerted last k l → Alerting alerted all r h l
-    alerting_behind first last all h k l r fault is e a f = alerting_in all last last [] h k l r fault is (record { so_far = first; alerted_so_far = a; parts = e }) (sym (append-nil last)) f
-
   -- 2. A run
 
   -- one that follows these alerts
@@ -64,11 +53,6 @@ module _ {H : Type 0} (alerted : List Alert → H → H → Type 0) where
   pub watched_before : ((s : H) → alerted [] s s) → {X T I : Type 0} (all : X → List Alert) (input : Option X) (h : H) (x : Result T (Fault I)) → x ≡ Err Faults.Write → IfSome input (λ octets. WatchedRun alerted (all octets) x h h)
   watched_before nothing all None h x e = tt
   watched_before nothing {X} {T} {I} all (Some octets) h x e = subst (λ (z : Result T (Fault I)). WatchedRun alerted (all octets) z h h) (sym e) (front_none nothing (all octets) h)
-
-  -- a call failed behind it
-  pub watched_halt : {T I : Type 0} (all : List Alert) (h k : H) (x : Result T (Fault I)) (halt : Halt) → x ≡ Err (fault_of_halt halt) → alerted all h k → WatchedRun alerted all x h k
-  watched_halt {T} {I} all h k x Halts.Write e a = subst (λ (z : Result T (Fault I)). WatchedRun alerted all z h k) (sym e) (front_of_all alerted all h k a)
-  watched_halt {T} {I} all h k x Halts.Memory e a = subst (λ (z : Result T (Fault I)). WatchedRun alerted all z h k) (sym e) (front_of_all alerted all h k a)
 
   -- the last write may fail
   pub told_out : {I : Type 0} (all : List Alert) (before run : Result (Unit {0}) (Fault I)) (h k : H) → IsOrFails run before → WatchedRun alerted all before h k → WatchedRun alerted all run h k

@@ -1,23 +1,19 @@
 -- What is told of requests, one after another, and of the lines that ask them.
-use Rattle.std.proofs.Common.{◌≡◌, ℕ, Bool, false, cond, List, [], ◌∷◌, ◌++◌, Option, Some, None, Result, Ok, Err, true, refl, sym, ap, ◌∙◌, subst, append-nil}
-use Rattle.std.specs.Prelude.{IfSome, is_some, ◌||◌}
+use Rattle.std.proofs.Common.{◌≡◌, ℕ, Bool, false, cond, List, [], ◌∷◌, ◌++◌, Option, Some, None, Result, true, refl, sym, ap, ◌∙◌, append-nil}
+use Rattle.std.specs.Prelude.{is_some, ◌||◌}
 use denote.Bor.{Bor}
 use Rattle.abstract_port.specs.AbstractPort.{installs}
 use Rattle.abstract_port.specs.declared.Refused.{Refused}
-use Rattle.abstract_port.proofs.RunLaws.{IsTimely, same-event, timely-settled, timely-sound}
-use Rattle.job.specs.declared.fault.Fault.TheVariants as Faults
-use Rattle.job.proofs.LineLaws.{done}
-use Rattle.text.specs.Script.{Line}
-use Rattle.script.specs.Alerts.{Alert, AlertedFront, alerts_of, refused_alert}
+use Rattle.abstract_port.proofs.RunLaws.{IsTimely, same-event, timely-settled}
+use Rattle.script.specs.Alerts.{alerts_of, refused_alert}
 use Rattle.frame_table.specs.Alerts.{judged_of}
-use Rattle.script.specs.Outcome.{asked_with, with_line}
+use Rattle.script.specs.Outcome.{asked_with}
 use Rattle.script.specs.Told.{cause_of, told_answers, told_of, told_to}
-use Rattle.script.proofs.AlertLaws.{HasAlerted, alerted_all, alerted_first, alerted_more, alerted_none, alerts-both, clock-quiet, command-alerts, count-quiet}
+use Rattle.script.proofs.AlertLaws.{alerts-both, clock-quiet, command-alerts, count-quiet}
 use Rattle.frame_table.specs.RowText.{has_column}
 use Rattle.frame_table.specs.StreamOf.{has_frame, stream_in}
-use Rattle.frame_table.specs.Words.{AbstractPort, Advances, Arrival, Arrive, Asks, BadLine, Clock, Command, Count, Event, Fault, FrameRow, Install, IsSoundPort, NoCommand, Query, Reading, Request, Runs, Script, ScriptFault, Steps, Stream, TcFault, WatchedRun, alerts_after, alerts_from, answers_to, asked_alerts, bad_line, departs, ending_alerts, has_deadlines, judged_row, judged_rows, left_alerts, left_rows, long_line, reading_of, request_alerts, request_of, responses_to, rows_at, rows_by, settled, starts_in, tc_request}
-use Rattle.frame_table.proofs.AlertLaws.{front_in}
-use Rattle.frame_table.proofs.LineSteps.{asked-more, rows-tc}
+use Rattle.frame_table.specs.Words.{AbstractPort, Arrival, Arrive, Asks, BadLine, Clock, Command, Count, Event, FrameRow, Install, NoCommand, Query, Reading, Request, Stream, TcFault, alerts_after, answers_to, asked_alerts, departs, ending_alerts, has_deadlines, judged_row, judged_rows, left_alerts, left_rows, request_alerts, responses_to, rows_at, rows_by, settled, starts_in, tc_request}
+use Rattle.frame_table.proofs.LineSteps.{rows-tc}
 
 -- 1. One request
 
@@ -143,120 +139,3 @@ module _ (streams : Option (List Stream)) (none : has_column streams ≡ false) 
       by None None = ap (λ rs. alerts_of (told_of rs p)) (sym (append-nil reading.requests)) ∙ sym (plain_asked (reading.requests ++ []) None p w)
       by (Some m) None = sym (clock-none reading.requests m p) ∙ sym (plain_asked (reading.requests ++ Asks (Clock m) ∷ []) None p w)
       by until (Some fault) = sym (plain_asked reading.requests (Some fault) p w)
-
--- 4. The lines of a script
-
-module _ {H : Type 0} (alerted : List Alert → H → H → Type 0) (streams : Option (List Stream)) (read : List (List ℕ) → Result Command TcFault) (until : Option ℕ) (p : AbstractPort) (w : List (List Arrival)) where
-  -- the alerts of known lines are those that were told and those of the lines to come, from a port and what waits on it
-  abbrev pub Tells : Option Script → H → H → Option Script → AbstractPort → List (List Arrival) → Type 0
-  Tells None h k left q v = Unit {0}
-  Tells (Some all) h k None q v = ⊥
-  Tells (Some all) h k (Some script) q v = HasAlerted alerted (alerts_from streams read until all p w) (alerts_from streams read until script q v) h k
-
-  -- who watches was told the alerts of known lines
-  abbrev pub AreTold : {T : Type 0} → Option Script → Result T (Fault BadLine) → H → H → Type 0
-  AreTold all r h k = IfSome all (λ script. WatchedRun alerted (alerts_from streams read until script p w) r h k)
-
-  pub tells_begun : ((h : H) → alerted [] h h) → (all : Option Script) (h : H) → Tells all h h all p w
-  tells_begun nothing None h = tt
-  tells_begun nothing (Some all) h = alerted_none alerted nothing (alerts_from streams read until all p w) h
-
-  module _ (both : (xs ys : List Alert) (s t u : H) → alerted xs s t → alerted ys t u → alerted (xs ++ ys) s u) (number : ℕ) (line : List ℕ) (all old new : Option Script) (h k : H) (q : AbstractPort) (v : List (List Arrival)) (g : Tells all h k old q v) (sound : IsSoundPort q) where
-    by_request : (is : Result (Option Request) ScriptFault) → request_of read line ≡ is → (script rest : Script) → script ≡ Line number line rest → alerts_from streams read until script q v ≡ alerts_after streams until (with_line number is (reading_of read rest)) q v
-    by_request is e script rest same = ap (λ x. alerts_from streams read until x q v) same ∙ ap (λ x. alerts_after streams until (with_line number x (reading_of read rest)) q v) e
-
-    by_one : (r : Request) (q' : AbstractPort) (v' : List (List Arrival)) → request_of read line ≡ Ok (Some r) → q' ≡ settled (responses_to r q).1 → v' ≡ (rows_by r q v).1 → (script rest : Script) → script ≡ Line number line rest
-        → alerts_from streams read until script q v ≡ request_alerts streams r q v ++ alerts_from streams read until rest q' v'
-    by_one r q' v' e port waits script rest same =
-        let reading = reading_of read rest in
-        by_request (Ok (Some r)) e script rest same
-        ∙ ap (λ requests. asked_alerts streams requests reading.fault q v) (asked-more until r reading.requests reading.fault)
-        ∙ one_request streams r (asked_with until reading.requests reading.fault) reading.fault q q' v v' (timely-sound q sound) port waits
-
-    -- a line more
-    pub tells_on : (r : Request) (q' : AbstractPort) (v' : List (List Arrival)) (l : H) → Advances old (Ok true) number line new → request_of read line ≡ Ok (Some r) → q' ≡ settled (responses_to r q).1 → v' ≡ (rows_by r q v).1
-        → alerted (request_alerts streams r q v) k l → Tells all h l new q' v'
-    tells_on r q' v' l a e port waits told = by all old g a
-      where
-        by : (all old : Option Script) → Tells all h k old q v → Advances old (Ok true) number line new → Tells all h l new q' v'
-        by None old g a = tt
-        by (Some all) None g a = absurd g
-        by (Some all) (Some script) g (rest, left, is) =
-            let P : Option Script → Type 0 = λ u. Tells (Some all) h l u q' v' in
-            subst P (sym left) (alerted_more alerted both (alerts_from streams read until all p w) (alerts_from streams read until script q v) (request_alerts streams r q v) (alerts_from streams read until rest q' v') h k l g (by_one r q' v' e port waits script rest is) told)
-
-    -- a line that is skipped
-    pub tells_past : (l : H) → Advances old (Ok true) number line new → request_of read line ≡ Ok None → alerted [] k l → Tells all h l new q v
-    tells_past l a e told = by all old g a
-      where
-        by : (all old : Option Script) → Tells all h k old q v → Advances old (Ok true) number line new → Tells all h l new q v
-        by None old g a = tt
-        by (Some all) None g a = absurd g
-        by (Some all) (Some script) g (rest, left, is) =
-            let P : Option Script → Type 0 = λ u. Tells (Some all) h l u q v in
-            subst P (sym left) (alerted_more alerted both (alerts_from streams read until all p w) (alerts_from streams read until script q v) [] (alerts_from streams read until rest q v) h k l g (by_request (Ok None) e script rest is) told)
-
-    module _ {T : Type 0} {f : Result T (Fault BadLine)} where
-      failed : (all : Script) (fault : Fault BadLine) (l : H) → f ≡ Err fault → WatchedRun {T = T} alerted (alerts_from streams read until all p w) (Err fault) h l → WatchedRun alerted (alerts_from streams read until all p w) f h l
-      failed all fault l is = subst (λ (x : Result T (Fault BadLine)). WatchedRun alerted (alerts_from streams read until all p w) x h l) (sym is)
-
-      -- a call failed in what is told of a line, and in what is written of it, which has no fault of its own
-      pub tells_in : (fault : Fault BadLine) (old' new' : Option (List ℕ)) (text : List ℕ) (r : Request) (l : H) → Runs {T = Unit {0}} (Err fault) old' new' (done text) → Advances old (Ok true) number line new → request_of read line ≡ Ok (Some r)
-          → AlertedFront alerted (request_alerts streams r q v) k l → f ≡ Err fault → AreTold all f h l
-      tells_in fault old' new' text r l short a e front is = by all old g a fault short is
-        where
-          all_front : (all script rest : Script) → HasAlerted alerted (alerts_from streams read until all p w) (alerts_from streams read until script q v) h k → script ≡ Line number line rest → AlertedFront alerted (alerts_from streams read until all p w) h l
-          all_front all script rest g at = front_in alerted both _ (alerts_from streams read until script q v) (request_alerts streams r q v) _ h k l g (by_one r _ _ e refl refl script rest at) front
-
-          by : (all old : Option Script) → Tells all h k old q v → Advances old (Ok true) number line new → (fault : Fault BadLine) → Runs {T = Unit {0}} (Err fault) old' new' (done text) → f ≡ Err fault → AreTold all f h l
-          by None old g a fault short is = tt
-          by (Some all) None g a fault short is = absurd g
-          by (Some all) (Some script) g a (Faults.Input bad) short is = absurd (let no : ◌≡◌ {A = Option BadLine} None (Some bad) = short.0 in cc)
-          by (Some all) (Some script) g (rest, left, at) Faults.Read short is = failed all Faults.Read l is (all_front all script rest g at)
-          by (Some all) (Some script) g (rest, left, at) Faults.Write short is = failed all Faults.Write l is (all_front all script rest g at)
-          by (Some all) (Some script) g (rest, left, at) Faults.Memory short is = failed all Faults.Memory l is (all_front all script rest g at)
-
-      -- a line with a fault
-      pub tells_wrong : (fault : ScriptFault) (l : H) → Advances old (Ok true) number line new → request_of read line ≡ Err fault → alerted [] k l → f ≡ Err (Faults.Input (bad_line number fault)) → AreTold all f h l
-      tells_wrong fault l a e told is = by all old g a
-        where
-          by : (all old : Option Script) → Tells all h k old q v → Advances old (Ok true) number line new → AreTold all f h l
-          by None old g a = tt
-          by (Some all) None g a = absurd g
-          by (Some all) (Some script) g (rest, left, at) =
-              let none = by_request (Err fault) e script rest at in
-              failed all (Faults.Input (bad_line number fault)) l is
-              (alerted_all alerted (alerts_from streams read until all p w) [] h l (alerted_more alerted both (alerts_from streams read until all p w) (alerts_from streams read until script q v) [] [] h k l g none told) refl)
-
-      -- the next line can't be had
-      pub tells_before : (fault : Fault BadLine) → Steps long_line old (Err fault) number line new → f ≡ Err fault → AreTold all f h k
-      tells_before fault a is = by all old g fault a is
-        where
-          by : (all old : Option Script) → Tells all h k old q v → (fault : Fault BadLine) → Steps long_line old (Err fault) number line new → f ≡ Err fault → AreTold all f h k
-          by None old g fault a is = tt
-          by (Some all) None g fault a is = absurd g
-          by (Some all) (Some script) g (Faults.Input fault) (n, limit, same, at) is = failed all (Faults.Input fault) k is (alerted_all alerted _ _ h k g (ap (λ x. alerts_from streams read until x q v) at))
-          by (Some all) (Some script) g Faults.Read a is = failed all Faults.Read k is (alerted_first alerted _ _ h k g)
-          by (Some all) (Some script) g Faults.Write a is = failed all Faults.Write k is (alerted_first alerted _ _ h k g)
-          by (Some all) (Some script) g Faults.Memory a is = absurd a
-
-      -- the end
-      pub tells_well : (x : T) (l : H) → Advances old (Ok false) number line new → alerted (ending_alerts streams until q v) k l → f ≡ Ok x → AreTold all f h l
-      tells_well x l a told is = by all old g a
-        where
-          by : (all old : Option Script) → Tells all h k old q v → Advances old (Ok false) number line new → AreTold all f h l
-          by None old g a = tt
-          by (Some all) None g a = absurd g
-          by (Some all) (Some script) g a =
-              subst (λ (y : Result T (Fault BadLine)). WatchedRun alerted (alerts_from streams read until all p w) y h l) (sym is)
-              (alerted_all alerted _ [] h l (alerted_more alerted both _ (alerts_from streams read until script q v) (ending_alerts streams until q v) [] h k l g (ap (λ x. alerts_from streams read until x q v) a ∙ sym (append-nil (ending_alerts streams until q v))) told) refl)
-
-      pub tells_short : (l : H) → Advances old (Ok false) number line new → AlertedFront alerted (ending_alerts streams until q v) k l → f ≡ Err Faults.Write → AreTold all f h l
-      tells_short l a front is = by all old g a
-        where
-          by : (all old : Option Script) → Tells all h k old q v → Advances old (Ok false) number line new → AreTold all f h l
-          by None old g a = tt
-          by (Some all) None g a = absurd g
-          by (Some all) (Some script) g a =
-              failed all Faults.Write l is
-              (front_in alerted both _ (alerts_from streams read until script q v) (ending_alerts streams until q v) [] h k l g (ap (λ x. alerts_from streams read until x q v) a ∙ sym (append-nil (ending_alerts streams until q v))) front)

@@ -1,10 +1,13 @@
 -- A run on a script and a capture, from what its parts leave.
-use Rattle.std.proofs.Common.{◌≡◌, ℕ, List, length, false, true, Option, Some, None, Result, Ok, Err, refl, sym, ap, ◌∙◌, subst, ◌∷◌, []}
+use Rattle.std.proofs.Common.{◌≡◌, ℕ, List, length, false, true, Option, Some, None, Result, Ok, Err, refl, sym, ap, ◌∙◌, subst, ◌∷◌, ◌++◌, []}
+use Rattle.std.specs.Io.KnownBytes.{Appends}
 use Rattle.text.proofs.Fronts.{Appends-nil, sent_none}
 use Rattle.capture.specs.CaptureReader.{Left}
 use Rattle.capture.specs.FileHeader.{format_of}
 use Rattle.job.specs.declared.fault.Fault.TheVariants as Faults
+use Rattle.job.specs.declared.halt.Halt.TheVariants as Halts
 use Rattle.text.specs.Script.{script_of}
+use Rattle.replay.specs.ByEvents.{StopsIn}
 use Rattle.replay.specs.Lines as Beside
 use Rattle.replay.specs.Outcome.{IsOpenFault}
 use Rattle.replay.specs.WholeScript.{IsScriptFault}
@@ -20,8 +23,9 @@ use Rattle.script.specs.Setup.{Setup}
 use Rattle.script.proofs.AlertLaws.{alerts_same}
 use Rattle.frame_table.specs.Alerts.{both_alerts, records_alerts}
 use Rattle.frame_table.specs.OfCapture.{frames_read, frames_said, refused}
-use Rattle.frame_table.proofs.WalkLaws.{begun}
-use Rattle.frame_table.specs.Words.{Asks, BadLine, CapFault, Clock, Comes, Command, End, EndsHere, Entry, Fault, IsSoundPort, Outcome, Place, ReadsAs, Reading, ReplayInput, Request, RunsBoth, RunsOut, Stands, StopsAt, TakesRows, TcFault, WatchedRun, capture_alerts, end_fault, fault_of, frames_of_capture, is_too_late, run_end, run_of_both, to_run_end}
+use Rattle.frame_table.proofs.TabledLaws.{Cut, Took, halted_in, unread}
+use Rattle.frame_table.proofs.WalkLaws.{begun, ends_short, ends_well}
+use Rattle.frame_table.specs.Words.{Asks, BadLine, CapFault, Clock, Comes, Command, End, EndsHere, Entry, FallsShort, Fault, IsSoundPort, Outcome, Place, ReadsAs, Reading, ReplayInput, Request, RunsBoth, RunsOut, Stands, Stream, TcFault, WatchedRun, capture_alerts, end_fault, ending_alerts, ending_text, fault_of, frames_of_capture, is_too_late, run_end, run_of_both, to_run_end}
 
 -- a call stopped before the end of the records is known to be met
 pub both_fail : (stop : Stop) (entries : List Entry) (last : End) (r : Result (Option (ℕ × CapFault)) Stop) (old new : Option (List ℕ)) (whole : Outcome BadLine) → r ≡ Err stop → RunsOut {T = Unit {0}} (Err (fault_of stop)) old new whole → RunsBoth entries last r old new whole
@@ -140,11 +144,37 @@ module _ (read : List (List ℕ) → Result Command TcFault) (s : Setup) (lines 
 pub not_moved : {R : Type 0} {remaining : R → Option (List ℕ)} {l : Left R} {entries : List Entry} {last : End} → Comes remaining l entries last → ComesMoved None remaining l entries last
 not_moved {entries = entries} {last = last} comes = record { read = entries; read_last = last; comes = comes; are_moved = unmoved entries last }
 
-module _ {H : Type 0} (alerted : List Alert → H → H → Type 0) (nothing : (s : H) → alerted [] s s) (until : Option ℕ) (asked : List Request) (x y : Place H) (sound : IsSoundPort x.port) where
-  -- all that is asked is taken, but for the end
-  pub all_taken : TakesRows alerted None asked x y → Stands alerted None x (to_run_end until asked) (Asks (Clock (run_end until)) ∷ []) y
-  all_taken a = a x (to_run_end until asked) (Asks (Clock (run_end until)) ∷ []) (begun alerted None nothing (to_run_end until asked) x sound)
+module _ {S W H : Type 0} (alerted : List Alert → H → H → Type 0) (streams : S → Option (List Stream)) (at : S → W → H → Place H) (nothing : (s : H) → alerted [] s s) (until : Option ℕ) (asked : List Request) (s : S) (w : W) (h : H) (t : S) (v : W) (k : H)
+    (sound : IsSoundPort (at s w h).port) where
+  abbrev end : List Request
+  end = Asks (Clock (run_end until)) ∷ []
 
-  -- a call stopped in it
-  pub not_taken : (stop : Stop) → StopsAt alerted None asked (fault_of stop) x y → EndsHere alerted None {T = Unit {0}} (Err (fault_of stop)) x (to_run_end until asked) y
-  not_taken stop a = a x (to_run_end until asked) (Asks (Clock (run_end until)) ∷ []) (begun alerted None nothing (to_run_end until asked) x sound)
+  -- in what is asked a call couldn't go on, or a read failed
+  pub not_taken : (stop : Stop) → StopsIn (Took alerted streams at) (Cut alerted streams at) asked stop s w h t v k → EndsHere alerted (streams s) None {T = Unit {0}} (Err (fault_of stop)) (at s w h) (to_run_end until asked) (at t v k)
+  not_taken Stops.Read a = unread alerted nothing (streams s) (at s w h) (at t v k) sound None asked end a.first a.rest a.parts a.taken.1
+  not_taken Stops.Write a = halted_in alerted nothing (streams s) (at s w h) (at t v k) sound None asked end a.first a.rest Halts.Write a.parts a.halted
+  not_taken Stops.Memory a = halted_in alerted nothing (streams s) (at s w h) (at t v k) sound None asked end a.first a.rest Halts.Memory a.parts a.halted
+
+  -- all that is asked is taken, but for the end
+  module _ (both : (xs ys : List Alert) (s t u : H) → alerted xs s t → alerted ys t u → alerted (xs ++ ys) s u) (taken : Took alerted streams at asked s w h t v k) (m : ℕ) (is : m ≡ run_end until) (z : Place H) where
+    abbrev y : Place H
+    y = at t v k
+
+    there : Stands alerted (streams s) None (at s w h) (to_run_end until asked) end y
+    there = taken.1 None (at s w h) (to_run_end until asked) end (begun alerted (streams s) nothing None (to_run_end until asked) (at s w h) sound)
+
+    -- and then the end is written
+    pub ended_all : {T : Type 0} (o : T) → Appends y.got z.got (ending_text (streams t) (Some m) y.port y.waiting) → alerted (ending_alerts (streams t) (Some m) y.port y.waiting) y.watch z.watch
+        → EndsHere alerted (streams s) None (Ok o) (at s w h) (to_run_end until asked) z
+    ended_all {T} o text told =
+        let P : Option (List Stream) → ℕ → Type 0 = λ f n. Appends y.got z.got (ending_text f (Some n) y.port y.waiting) in
+        let Q : Option (List Stream) → ℕ → Type 0 = λ f n. alerted (ending_alerts f (Some n) y.port y.waiting) y.watch z.watch in
+        ends_well alerted (streams s) both (at s w h) (to_run_end until asked) {T = T} o end y z there (subst (λ n. P (streams s) n) is (subst (λ f. P f m) taken.0 text)) (subst (λ n. Q (streams s) n) is (subst (λ f. Q f m) taken.0 told))
+
+    -- or a prefix of it
+    pub ended_in : FallsShort y.got z.got (ending_text (streams t) (Some m) y.port y.waiting) → AlertedFront alerted (ending_alerts (streams t) (Some m) y.port y.waiting) y.watch z.watch
+        → EndsHere alerted (streams s) None {T = Unit {0}} (Err Faults.Write) (at s w h) (to_run_end until asked) z
+    ended_in text told =
+        let P : Option (List Stream) → ℕ → Type 0 = λ f n. FallsShort y.got z.got (ending_text f (Some n) y.port y.waiting) in
+        let Q : Option (List Stream) → ℕ → Type 0 = λ f n. AlertedFront alerted (ending_alerts f (Some n) y.port y.waiting) y.watch z.watch in
+        ends_short alerted (streams s) both None (at s w h) (to_run_end until asked) end y z there (subst (λ n. P (streams s) n) is (subst (λ f. P f m) taken.0 text)) (subst (λ n. Q (streams s) n) is (subst (λ f. Q f m) taken.0 told))

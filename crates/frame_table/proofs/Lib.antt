@@ -2,6 +2,7 @@ pub mod AlertLaws
 pub mod ArrivalLaws
 pub mod AskedLaws
 pub mod CaptureLaws
+pub mod HaltLaws
 pub mod JoinLaws
 pub mod LeftLaws
 pub mod LineSteps
@@ -10,7 +11,6 @@ pub mod MappedText
 pub mod OnceLaws
 pub mod TabledLaws
 pub mod RowLaws
-pub mod RowWalkLaws
 pub mod RunLaws
 pub mod TableAlerts
 pub mod TableLaws

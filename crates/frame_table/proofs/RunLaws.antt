@@ -6,7 +6,7 @@ use Rattle.text.specs.Writes.{AppendsFront}
 use Rattle.text.proofs.Fronts.{Appends-append, sent_all, sent_more, sent_none, sent_short}
 use Rattle.abstract_port.specs.AbstractPort.{new_port}
 use Rattle.script.specs.Setup.{Setup}
-use Rattle.frame_table.specs.Words.{AbstractPort, Arrival, BadLine, FallsShort, Fault, Outcome, Runs, RunsOut, Sent, Stream, none_wait, with_head, head_line}
+use Rattle.frame_table.specs.Words.{AbstractPort, Arrival, BadLine, FallsShort, Fault, Outcome, RunsOut, Sent, Stream, none_wait, with_head, head_line}
 use Rattle.job.specs.declared.fault.Fault.TheVariants as Faults
 use Rattle.job.proofs.LineLaws.{done}
 use Rattle.job.proofs.RunEndLaws.{out_of_input, runs_out}
@@ -22,14 +22,6 @@ front_on {a} {b} c x rest s e (back, t) = (
     parts = s.parts ∙ ap (λ u. s.done ++ u) (e ∙ ap (λ u. u ++ rest) t.parts ∙ append_assoc t.done back rest) ∙ sym (append_assoc s.done t.done (back ++ rest));
   },
 )
-
--- a run stops in the next part, which has no fault of its own
-pub stops_in : (T U : Type 0) {a b : Option (List ℕ)} {left : List ℕ} (c : Option (List ℕ)) (x rest : List ℕ) (whole : Outcome BadLine) (fault : Fault BadLine) → Sent a b whole.text left → left ≡ x ++ rest
-    → Runs {T = U} (Err fault) b c (done x) → Runs {T = T} (Err fault) a c whole
-stops_in T U c x rest whole (Faults.Input bad) s e w = absurd (let no : ◌≡◌ {A = Option BadLine} None (Some bad) = w.0 in cc)
-stops_in T U c x rest whole Faults.Read s e w = front_on c x rest s e w
-stops_in T U c x rest whole Faults.Write s e w = sent_short c x rest s e w
-stops_in T U c x rest whole Faults.Memory s e w = front_on c x rest s e w
 
 -- the last part
 last : {T : Type 0} {a b : Option (List ℕ)} (c : Option (List ℕ)) (whole part : Outcome BadLine) (r : Result T (Fault BadLine)) → Sent a b whole.text part.text → whole.fault ≡ part.fault → RunsOut r b c part → RunsOut r a c whole
@@ -48,15 +40,6 @@ pub no_head : (streams : Option (List Stream)) {T : Type 0} {r : Result T (Fault
 no_head streams {T} {r} a b table e w =
     let P : Result T (Fault BadLine) → Type 0 = λ x. RunsOut x a b (with_head streams table) in
     subst P (sym e) (runs_out {T = T} (Err Faults.Write) a b (with_head streams table) (sent_short b (head_line streams) table.text (sent_none a (head_line streams ++ table.text)) refl w))
-
--- a call stops that has written nothing, since memory is out, or a prefix, since a write failed
-pub without_memory : {T : Type 0} {r : Result T (Fault BadLine)} (a : Option (List ℕ)) (whole : Outcome BadLine) → r ≡ Err Faults.Memory → Runs r a a whole
-without_memory {T} {r} a whole e =
-    let P : Result T (Fault BadLine) → Type 0 = λ x. Runs x a a whole in
-    subst P (sym e) (whole.text, sent_none a whole.text)
-
-pub not_written : {T : Type 0} {r : Result T (Fault BadLine)} (a b : Option (List ℕ)) (whole : Outcome BadLine) → r ≡ Err Faults.Write → FallsShort a b whole.text → Runs r a b whole
-not_written {T} {r} a b whole e w = let P : Result T (Fault BadLine) → Type 0 = λ x. Runs x a b whole in subst P (sym e) w
 
 -- the same of an input that is known
 pub head_of : (streams : Option (List Stream)) {T X : Type 0} (a b c : Option (List ℕ)) (table : X → Outcome BadLine) (r : Result T (Fault BadLine)) (input : Option X) → Appends a b (head_line streams) → IfSome input (λ x. RunsOut r b c (table x)) → IfSome input (λ x. RunsOut r a c (with_head streams (table x)))

@@ -9,7 +9,6 @@ pub mod Rows
 pub mod StreamOf
 pub mod TakenRows
 pub mod Told
-pub mod ToldRows
 pub mod Waits
 pub mod Walk
 pub mod Words

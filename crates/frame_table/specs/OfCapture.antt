@@ -63,13 +63,6 @@ fault_of Stops.Read = Faults.Read
 fault_of Stops.Write = Faults.Write
 fault_of Stops.Memory = Faults.Memory
 
--- why a run stops that a call ends with this fault, which is none of an input
-abbrev pub stop_of : Fault BadLine → Stop
-stop_of (Faults.Input bad) = Stops.Read
-stop_of Faults.Read = Stops.Read
-stop_of Faults.Write = Stops.Write
-stop_of Faults.Memory = Stops.Memory
-
 -- a result, as that of the run of a table
 abbrev pub run_of : {T : Type 0} → Result T Stop → Result T (Fault BadLine)
 run_of (Ok x) = Ok x

@@ -1,5 +1,5 @@
 -- The table that is written for a script, and the fault that ends it.
-use Rattle.std.specs.Prelude.{◌≡◌, ◌++◌, List, ℕ, [], Option, Some, None, Result, OnOk}
+use Rattle.std.specs.Prelude.{◌≡◌, ◌++◌, List, ℕ, [], Option, Some, None, Result, Ok, Err, OnOk}
 use Rattle.abstract_port.specs.AbstractPort.{AbstractPort, new_port, settled}
 use Rattle.abstract_port.specs.Answers.{answers_to}
 use Rattle.abstract_port.specs.Sound.{IsSoundPort}
@@ -7,7 +7,10 @@ use Rattle.abstract_port.specs.declared.Command.{Command}
 use Rattle.abstract_port.specs.declared.Event.{Event}
 use Rattle.text.specs.Script.{Script, script_of}
 use Rattle.port_text.specs.declared.tc_reader.fault.TcFault.{TcFault}
+use Rattle.job.specs.Halts.{fault_of_halt}
 use Rattle.job.specs.Outcome.{Outcome}
+use Rattle.job.specs.declared.fault.Fault.{Fault}
+use Rattle.job.specs.declared.halt.Halt.{Halt}
 use Rattle.script.specs.ScriptEnd.{Whole}
 use Rattle.script.specs.Outcome.{Reading, asked_in, reading_of}
 use Rattle.script.specs.Requests.{Request}
@@ -61,6 +64,11 @@ abbrev pub whole_frames : Setup → Whole
 whole_frames setup read octets = frames_of read setup octets
 
 -- 2. One event
+
+-- the result of a call that can't go on, as that of a run
+abbrev pub run_of_halt : {I T : Type 0} → Result T Halt → Result T (Fault I)
+run_of_halt (Ok x) = Ok x
+run_of_halt (Err halt) = Err (fault_of_halt halt)
 
 -- what is written of an event
 abbrev pub rows_told : Option (List Stream) → Event → AbstractPort → List (List Arrival) → Outcome BadLine

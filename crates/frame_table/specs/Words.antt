@@ -37,11 +37,11 @@ pub use Rattle.replay.specs.RecordsLeft.{Comes, EndsSo}
 pub use Rattle.replay.specs.RunEnd.{run_end}
 pub use Rattle.replay.specs.Texts.{replay_telling}
 pub use Rattle.replay.specs.declared.faults.ReplayInput.{ReplayInput}
-pub use Rattle.frame_table.specs.OfCapture.{IsCaptureEnding, RunsBoth, fault_of, frames_of_capture, run_of, run_of_both, stop_of, table_of_both}
+pub use Rattle.frame_table.specs.OfCapture.{IsCaptureEnding, RunsBoth, fault_of, frames_of_capture, run_of, run_of_both, table_of_both}
 pub use Rattle.frame_table.specs.Alerts.{IsWatchedByStream, IsWatchedCapture, IsWatchedFrames, WatchedRun, alerts_after, alerts_from, alerts_in, asked_alerts, by_stream_alerts, capture_alerts, ending_alerts, frames_alerts, judged_row, judged_rows, left_alerts, request_alerts}
 pub use Rattle.frame_table.specs.Walk.{Carries, EndsHere, GoesOn, Place, Stands, alerts_at, place, table_at}
-pub use Rattle.frame_table.specs.TakenRows.{StopsAt, TakesRows}
-pub use Rattle.frame_table.specs.Outcome.{IsAfter, ending_text, frames_by, frames_of, rows_told, table_after, table_by, table_from, table_unless, whole_frames, with_head}
+pub use Rattle.frame_table.specs.TakenRows.{StopsKept, TakesKept, TakesRows}
+pub use Rattle.frame_table.specs.Outcome.{IsAfter, ending_text, frames_by, frames_of, rows_told, run_of_halt, table_after, table_by, table_from, table_unless, whole_frames, with_head}
 pub use Rattle.frame_table.specs.RowText.{head_line, row_line, rows_text}
 pub use Rattle.frame_table.specs.Deadline.{has_deadlines}
 pub use Rattle.frame_table.specs.StreamOf.{has_frame, ids_table, stream_in}

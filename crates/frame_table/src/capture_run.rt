@@ -14,8 +14,8 @@ use crate::table_run::put_end;
 use crate::tabled::Tabled;
 use capture::{CapFault, CaptureReader};
 use replay::{
-    KeptScript, ReplayFault, ReplayInput, Stop, ended_by, is_too_late, open_capture, read_script,
-    run_end, walk_both,
+    ByEvents, KeptScript, ReplayFault, ReplayInput, Stop, ended_by, is_too_late, open_capture,
+    read_script, run_end, walk_both,
 };
 use script::{RunningPort, Settings, Watch};
 use std::alloc::Allocator;
@@ -23,8 +23,8 @@ use std::io::{Read, Write};
 
 /// Writes the head of the table, takes the records and the lines to the end of both, and writes the rows. The number of
 /// the record at which the capture ends with a fault, and the fault.
-fn run<A: Allocator + Clone, B: Allocator, C: Allocator, R: Read, W: Write, H: Watch>(
-    tabled: &mut Tabled<A>,
+fn run<A: Allocator + Clone, B: Allocator, C: Allocator, D: Allocator, R: Read, W: Write, H: Watch>(
+    tabled: &mut ByEvents<Tabled<'_, A, D>>,
     script: &KeptScript<B>,
     records: &mut CaptureReader<R, C>,
     until: Option<u128>,
@@ -37,27 +37,33 @@ fn run<A: Allocator + Clone, B: Allocator, C: Allocator, R: Read, W: Write, H: W
     ensures table { (read : List (List ℕ) → Result Command TcFault) → IsReader read →
         (entries : List Entry) (last : End) → Comes R.remaining (left records.old) entries last →
         RunsBoth entries last result (W.contents writer.old) (W.contents writer.new)
-        (with_head None
-        (table_by None
+        (with_head tabled.old.taker.streams.now
+        (table_by tabled.old.taker.streams.now
         (all_requests
         (kept_requests read script.now.octets.items script.now.lines.items) entries until) None
-        tabled.old.port.port tabled.old.arrivals)) }
+        tabled.old.taker.port.port tabled.old.taker.arrivals)) }
     ensures alerts { (read : List (List ℕ) → Result Command TcFault) → IsReader read →
         (entries : List Entry) (last : End) → Comes R.remaining (left records.old) entries last →
         Alerting H.alerted
-        (asked_alerts None
+        (asked_alerts tabled.old.taker.streams.now
         (all_requests
         (kept_requests read script.now.octets.items script.now.lines.items) entries until) None
-        tabled.old.port.port tabled.old.arrivals) result watch.old watch.new }
+        tabled.old.taker.port.port tabled.old.taker.arrivals) result watch.old watch.new }
 {
     // For the prover: a call on a port says what holds of every port.
-    let _now = tabled.port.now();
-    let none: Option<Streams<A>> = None;
-    put_head(&none, writer)?;
+    let _now = tabled.taker.port.now();
+    put_head(tabled.taker.streams, writer)?;
     let broken = walk_both(tabled, script, records, None, writer, watch)?;
     let until = Some(run_end(until));
-    let (port, arrivals) = (&mut tabled.port, &mut tabled.arrivals);
-    put_end(port, arrivals, until, &none, writer, watch)?;
+    let end = &mut tabled.taker;
+    put_end(
+        &mut end.port,
+        &mut end.arrivals,
+        until,
+        end.streams,
+        writer,
+        watch,
+    )?;
     Ok(broken)
 }
 
@@ -98,7 +104,13 @@ fn put_table<A: Allocator, B: Allocator, C: Allocator, R: Read, W: Write, H: Wat
     let Ok(arrivals) = Arrivals::new(&&alloc) else {
         return Err(ReplayFault::Memory);
     };
-    let mut tabled = Tabled { port, arrivals };
+    let none: Option<Streams<A>> = None;
+    let taker = Tabled {
+        port,
+        arrivals,
+        streams: &none,
+    };
+    let mut tabled = ByEvents { taker };
     let until = settings.until();
     let broken = run(&mut tabled, script, records, until, writer, watch)?;
     ended_by(broken)

@@ -15,7 +15,6 @@ mod capture_run;
 mod deadline;
 mod frames_job;
 pub mod laws;
-mod row_writer;
 mod rows;
 mod streams;
 mod table_run;

@@ -120,7 +120,7 @@ fn stream_part<'a>(stream: &Option<Stream>) -> Part<'a>
 }
 
 /// Whether there is a column of deadlines.
-pub(crate) fn has_column<A: Allocator>(streams: &Option<Streams<A>>) -> bool
+fn has_column<A: Allocator>(streams: &Option<Streams<A>>) -> bool
     ensures { result ≡ has_column streams.now }
 {
     match streams {
@@ -188,19 +188,6 @@ fn put_fields<A: Allocator, W: Write>(
             Part::Text(b"\n"),
         ],
     )
-}
-
-/// Writes a row. At a fault a prefix of it is written.
-pub(crate) fn write_row<A: Allocator, W: Write>(
-    streams: &Option<Streams<A>>,
-    writer: &mut W,
-    row: &FrameRow,
-) -> Result<(), WriteFault>
-    ensures { Writes result (W.contents writer.old) (W.contents writer.new)
-        (row_line streams.now row.now) }
-{
-    let stream = stream_by(streams, row.arrival.id);
-    put_fields(streams, &stream, writer, row)
 }
 
 /// Writes a row, and calls who watches where the stream of its frame has a deadline. At a fault a prefix of it is

@@ -1,26 +1,40 @@
 //! Runs a script, and writes the table of its frames.
 
-ghost use Rattle.std.specs.Prelude.{◌≡◌, ◌<◌, ◌≤◌, ℕ, IfSome, List, None, Result, map};
+ghost use Rattle.std.specs.Prelude.{◌≡◌, ◌<◌, ◌≤◌, ℕ, Err, IfSome, List, None, OnOk, Result, map};
+ghost use Rattle.job.specs.declared.halt.Halt.TheVariants as Halts;
 ghost use Rattle.script.specs.Alerts.{Alerting, alerts_of, refused_alert};
 ghost use Rattle.script.specs.Told.{told_to};
-ghost use Rattle.frame_table.specs.Words.{Arrive, Asks, Clock, Command, IsAfter, IsReader, IsSoundPort, IsWatchedFrames, Runs, RunsOut, TcFault, WatchedRun, Writes, alerts_from, ending_alerts, ending_text, first_came, frames_by, frames_of, goes, greatest_moment, judged_rows, left_row, left_rows, request_alerts, responses_to, rows_at, rows_told, rows_text, script_left, sent_row, settled, table_from, tc_request, waiting_in, with_head, words_of};
+ghost use Rattle.frame_table.specs.Words.{Arrive, Asks, Clock, Command, IsAfter, IsReader, IsSoundPort, IsWatchedFrames, Runs, RunsOut, TcFault, WatchedRun, Writes, alerts_from, comes, ending_alerts, ending_text, first_came, frames_by, frames_of, goes, greatest_moment, judged_rows, left_row, left_rows, request_alerts, responses_to, rows_at, rows_told, rows_text, run_of_halt, script_left, sent_row, settled, table_from, tc_request, waiting_in, with_head, words_of};
 
 use crate::arrivals::Arrivals;
-use crate::row_writer::{RowWriter, walk_rows};
-use crate::rows::{Arrival, Fate, FrameRow, has_column, put_head, put_row};
+use crate::rows::{Arrival, Fate, FrameRow, put_head, put_row};
 use crate::streams::Streams;
+use crate::tabled::Tabled;
 use abstract_port::separation::settling;
 use abstract_port::{Event, Start};
-use job::next_line;
+use job::{Halt, halted};
 use port_text::answer_text::WriteFault;
-use script::{
-    BadLine, Failure, RunFault, RunningPort, Said, Settings, Watch, read_line, read_tc,
-    tell_command,
-};
+use port_text::tc_reader::CommandPlace;
+use script::{Failure, RunFault, RunningPort, Settings, Watch, read_tc_into, tell_command, walk};
 use std::alloc::Allocator;
 use std::io::{Read, Write};
 use text::line_reader::LineReader;
 use wire_time::{CLASSES, Frame, MAX_MOMENT};
+
+/// A frame of a class, if it is one, waits from now on.
+fn put_waiting<A: Allocator + Clone>(
+    arrivals: &mut Arrivals<A>,
+    class: u8,
+    arrival: Arrival,
+) -> Result<(), Halt>
+    ensures waits { OnOk result (arrivals.new ≡ comes class arrival arrivals.old) }
+    ensures memory { result ≡ Err Halts.Write → ⊥ }
+{
+    match arrivals.put(class, arrival) {
+        Ok(()) => Ok(()),
+        Err(_) => Err(Halt::Memory),
+    }
+}
 
 /// Takes a frame that comes: it waits from now on, or it is dropped, and its row is written.
 fn take_frame<A: Allocator + Clone, B: Allocator, W: Write, H: Watch>(
@@ -30,8 +44,8 @@ fn take_frame<A: Allocator + Clone, B: Allocator, W: Write, H: Watch>(
     streams: &Option<Streams<B>>,
     writer: &mut W,
     watch: &mut H,
-) -> Result<(), RunFault>
-    ensures text { Runs result (W.contents writer.old) (W.contents writer.new)
+) -> Result<(), Halt>
+    ensures text { Runs (run_of_halt result) (W.contents writer.old) (W.contents writer.new)
         (rows_told streams.now (Arrive frame.now) port.old.port arrivals.old) }
     ensures alerts { Alerting H.alerted
         (request_alerts streams.now
@@ -49,13 +63,13 @@ fn take_frame<A: Allocator + Clone, B: Allocator, W: Write, H: Watch>(
     let verdict = port.arrive(*frame);
     match verdict {
         Ok(joined) => {
-            arrivals.put(joined, arrival)?;
-            Ok(())
+            watch.frame_came(now);
+            put_waiting(arrivals, joined, arrival)
         }
         Err(why) => {
             watch.frame_dropped(now, frame, why);
             let fate = Fate::Lost(why);
-            put_row(
+            halted(put_row(
                 streams,
                 writer,
                 &FrameRow {
@@ -64,8 +78,7 @@ fn take_frame<A: Allocator + Clone, B: Allocator, W: Write, H: Watch>(
                     fate,
                 },
                 watch,
-            )?;
-            Ok(())
+            ))
         }
     }
 }
@@ -161,8 +174,8 @@ pub(crate) fn take_event<A: Allocator + Clone, B: Allocator, W: Write, H: Watch>
     streams: &Option<Streams<B>>,
     writer: &mut W,
     watch: &mut H,
-) -> Result<(), RunFault>
-    ensures text { Runs result (W.contents writer.old) (W.contents writer.new)
+) -> Result<(), Halt>
+    ensures text { Runs (run_of_halt result) (W.contents writer.old) (W.contents writer.new)
         (rows_told streams.now event.now port.old.port arrivals.old) }
     ensures alerts { Alerting H.alerted
         (request_alerts streams.now
@@ -173,10 +186,7 @@ pub(crate) fn take_event<A: Allocator + Clone, B: Allocator, W: Write, H: Watch>
     let _now = port.now();
     match event {
         Event::Arrive(frame) => take_frame(port, arrivals, frame, streams, writer, watch),
-        Event::Clock(until) => {
-            take_clock(port, arrivals, *until, streams, writer, watch)?;
-            Ok(())
-        }
+        Event::Clock(until) => halted(take_clock(port, arrivals, *until, streams, writer, watch)),
         Event::Install(command) => {
             let answer = port.install(command);
             tell_command(watch, 0, b"", answer);
@@ -188,8 +198,9 @@ pub(crate) fn take_event<A: Allocator + Clone, B: Allocator, W: Write, H: Watch>
 }
 
 /// Gives the port the command that the line of this number is, which begins with `tc`, if it is one. Who watches is
-/// called where it changes nothing.
+/// called for it. The command is read into a place that is kept from line to line.
 pub(crate) fn take_tc<A: Allocator, H: Watch>(
+    place: &mut CommandPlace,
     port: &mut RunningPort<A>,
     number: u32,
     line: &[u8],
@@ -206,10 +217,11 @@ pub(crate) fn take_tc<A: Allocator, H: Watch>(
 {
     // For the prover: a call on a port says what holds of every port.
     let _now = port.now();
-    match read_tc(line) {
-        Err(fault) => watch.command_failed(number, line, Failure::Malformed(fault)),
+    read_tc_into(line, place);
+    match &place.answer {
+        Err(fault) => watch.command_failed(number, line, Failure::Malformed(*fault)),
         Ok(command) => {
-            let answer = port.install(&command);
+            let answer = port.install(command);
             tell_command(watch, number, line, answer);
         }
     }
@@ -287,85 +299,44 @@ pub(crate) fn put_end<A: Allocator, B: Allocator, W: Write, H: Watch>(
     }
 }
 
-/// Runs the lines that are to come, and the end.
-fn run_lines<A: Allocator + Clone, B: Allocator, C: Allocator, R: Read + Drop, W: Write, H: Watch>(
-    port: &mut RunningPort<A>,
-    arrivals: &mut Arrivals<A>,
+/// Writes the table of the lines that are to come, to the end of the run.
+fn put_lines<A: Allocator + Clone, B: Allocator, C: Allocator, R: Read + Drop, W: Write, H: Watch>(
+    tabled: &mut Tabled<'_, A, C>,
     lines: &mut LineReader<R, B>,
     until: Option<u128>,
-    streams: &Option<Streams<C>>,
     writer: &mut W,
     watch: &mut H,
 ) -> Result<(), RunFault>
     ensures table { (read : List (List ℕ) → Result Command TcFault) → IsReader read →
         IfSome (script_left R.remaining lines.old)
         (λ script. RunsOut result (W.contents writer.old) (W.contents writer.new)
-        (table_from streams.now read until script port.old.port arrivals.old)) }
+        (table_from tabled.old.streams.now read until script tabled.old.port.port
+        tabled.old.arrivals)) }
     ensures alerts { (read : List (List ℕ) → Result Command TcFault) → IsReader read →
         IfSome (script_left R.remaining lines.old)
         (λ script. WatchedRun H.alerted
-        (alerts_from streams.now read until script port.old.port arrivals.old) result watch.old
-        watch.new) }
+        (alerts_from tabled.old.streams.now read until script tabled.old.port.port
+        tabled.old.arrivals) result watch.old watch.new) }
 {
     settling();
     // For the prover: a call on a port says what holds of every port.
-    let _now = port.now();
-    'lines: while next_line::<BadLine, _, _, _>(lines, writer)? {
-        let line = lines.line();
-        match read_line(line) {
-            Ok(None) => watch.line_skipped(lines.line_number(), line),
-            Ok(Some(Said::Asked(event))) => take_event(
-                port, arrivals, &event, streams, writer, watch,
-            )?,
-            Ok(Some(Said::Tc)) => take_tc(port, lines.line_number(), line, watch),
-            Err(fault) => {
-                watch.line_failed(line);
-                return Err(RunFault::Input(BadLine::new(lines.line_number(), fault)));
-            }
-        }
-    }
-    put_end(port, arrivals, until, streams, writer, watch)?;
+    let _now = tabled.port.now();
+    walk(tabled, lines, writer, watch)?;
+    let streams = tabled.streams;
+    put_end(
+        &mut tabled.port,
+        &mut tabled.arrivals,
+        until,
+        streams,
+        writer,
+        watch,
+    )?;
     Ok(())
-}
-
-/// Writes the table of the lines that are to come. Where a stream has a deadline, who watches is told of it row by row.
-fn put_lines<A: Allocator + Clone, B: Allocator, C: Allocator, R: Read + Drop, W: Write, H: Watch>(
-    port: &mut RunningPort<A>,
-    rows: &mut RowWriter<'_, A, C>,
-    lines: &mut LineReader<R, B>,
-    until: Option<u128>,
-    writer: &mut W,
-    watch: &mut H,
-) -> Result<(), RunFault>
-    ensures table { (read : List (List ℕ) → Result Command TcFault) → IsReader read →
-        IfSome (script_left R.remaining lines.old)
-        (λ script. RunsOut result (W.contents writer.old) (W.contents writer.new)
-        (table_from rows.old.streams.now read until script port.old.port rows.old.arrivals)) }
-    ensures alerts { (read : List (List ℕ) → Result Command TcFault) → IsReader read →
-        IfSome (script_left R.remaining lines.old)
-        (λ script. WatchedRun H.alerted
-        (alerts_from rows.old.streams.now read until script port.old.port rows.old.arrivals) result
-        watch.old watch.new) }
-{
-    if has_column(rows.streams) {
-        let streams = rows.streams;
-        return run_lines(
-            port,
-            &mut rows.arrivals,
-            lines,
-            until,
-            streams,
-            writer,
-            watch,
-        );
-    }
-    walk_rows(port, rows, lines, until, writer, watch)
 }
 
 /// Writes the head of the table, and then the table of the lines that are to come.
 fn put_table<A: Allocator + Clone, B: Allocator, C: Allocator, R: Read + Drop, W: Write, H: Watch>(
-    port: &mut RunningPort<A>,
-    rows: &mut RowWriter<'_, A, C>,
+    tabled: &mut Tabled<'_, A, C>,
     lines: &mut LineReader<R, B>,
     until: Option<u128>,
     writer: &mut W,
@@ -374,16 +345,16 @@ fn put_table<A: Allocator + Clone, B: Allocator, C: Allocator, R: Read + Drop, W
     ensures table { (read : List (List ℕ) → Result Command TcFault) → IsReader read →
         IfSome (script_left R.remaining lines.old)
         (λ script. RunsOut result (W.contents writer.old) (W.contents writer.new)
-        (with_head rows.old.streams.now
-        (table_from rows.old.streams.now read until script port.old.port rows.old.arrivals))) }
+        (with_head tabled.old.streams.now
+        (table_from tabled.old.streams.now read until script tabled.old.port.port tabled.old.arrivals))) }
     ensures alerts { (read : List (List ℕ) → Result Command TcFault) → IsReader read →
         IfSome (script_left R.remaining lines.old)
         (λ script. WatchedRun H.alerted
-        (alerts_from rows.old.streams.now read until script port.old.port rows.old.arrivals) result
+        (alerts_from tabled.old.streams.now read until script tabled.old.port.port tabled.old.arrivals) result
         watch.old watch.new) }
 {
-    put_head(rows.streams, writer)?;
-    put_lines(port, rows, lines, until, writer, watch)
+    put_head(tabled.streams, writer)?;
+    put_lines(tabled, lines, until, writer, watch)
 }
 
 /// Reads a script to its end, and writes a table of its frames, with a column of the streams where they are given.
@@ -406,22 +377,19 @@ pub(crate) fn run_with<A: Allocator, B: Allocator, R: Read + Drop, W: Write, H: 
     // For the prover: the getter says within which limits a rate lies.
     let _ps = rate.ps_per_octet();
     let mtu = settings.mtu();
-    let Ok(mut port) = RunningPort::new(&alloc, rate, mtu, settings.room()) else {
+    let Ok(port) = RunningPort::new(&alloc, rate, mtu, settings.room()) else {
         return Err(RunFault::Memory);
     };
     let Ok(arrivals) = Arrivals::new(&&alloc) else {
         return Err(RunFault::Memory);
     };
-    let mut rows = RowWriter { arrivals, streams };
+    let mut tabled = Tabled {
+        port,
+        arrivals,
+        streams,
+    };
     let mut lines = LineReader::new(&alloc, reader)?;
-    put_table(
-        &mut port,
-        &mut rows,
-        &mut lines,
-        settings.until(),
-        writer,
-        watch,
-    )
+    put_table(&mut tabled, &mut lines, settings.until(), writer, watch)
 }
 
 /// Reads a script to its end, and writes a table of its frames: a head, and a row for each frame as soon as its fate is

@@ -1,131 +1,81 @@
-//! Takes what a script and a capture ask, and writes the rows of the frames whose fate it decides.
-
-ghost use Rattle.std.specs.Prelude.{◌≡◌, ◌∷◌, [], List, None, Result};
-ghost use Rattle.frame_table.specs.Words.{Asks, Carries, place, run_of, stop_of};
+//! Takes what a script asks, and writes the rows of the frames whose fate it decides.
 
 use crate::arrivals::Arrivals;
 use crate::streams::Streams;
 use crate::table_run::{take_event, take_tc};
 use abstract_port::Event;
-use capture::{Record, frame_of};
-use job::Fault;
-use replay::{KeptLine, Stop, Taker};
-use script::{RunFault, RunningPort, Watch};
+use job::Halt;
+use port_text::tc_reader::CommandPlace;
+use script::{EventTaker, RunningPort, Watch, rests};
 use std::alloc::Allocator;
 use std::io::Write;
 
-/// A port and the frames that wait on it, whose rows are written without a column of streams.
+/// A port, the frames that wait on it, and the streams that a frame may be of.
 #[derive(Drop)]
-pub(crate) struct Tabled<A: Allocator> {
+pub(crate) struct Tabled<'a, A: Allocator, B: Allocator> {
     /// The port.
     pub port: RunningPort<A>,
     /// The frames that wait.
     pub arrivals: Arrivals<A>,
+    /// The streams that a frame may be of, where the table has a column for them.
+    pub streams: &'a Option<Streams<B>>,
 }
 
-/// Why a run stops that a call ends with this fault. The table has no fault of its own, so that none of an input comes.
-fn stop_of(fault: RunFault) -> Stop
-    ensures { result ≡ stop_of fault }
-{
-    match fault {
-        Fault::Input(_) => Stop::Read,
-        Fault::Read => Stop::Read,
-        Fault::Write => Stop::Write,
-        Fault::Memory => Stop::Memory,
-    }
-}
-
-impl<A: Allocator + Clone> Tabled<A> {
-    /// Takes an event, and writes the rows of the frames whose fate it decides.
-    fn take<W: Write, H: Watch>(
-        &mut self,
-        event: &Event<'_>,
-        out: &mut W,
-        watch: &mut H,
-    ) -> Result<(), Stop>
-        ensures { Carries H.alerted None (run_of result) (Asks event.now ∷ [])
-            (place self.old.port.port self.old.arrivals (W.contents out.old) watch.old)
-            (place self.new.port.port self.new.arrivals (W.contents out.new) watch.new) }
-    {
-        let none: Option<Streams<A>> = None;
-        let (port, arrivals) = (&mut self.port, &mut self.arrivals);
-        match take_event(port, arrivals, event, &none, out, watch) {
-            Ok(()) => Ok(()),
-            Err(fault) => Err(stop_of(fault)),
-        }
-    }
-}
-
-/// A run over the table of what was asked goes on, or ends where a call stops.
-impl<A: Allocator + Clone, W: Write, H: Watch> Taker<W, H> for Tabled<A> {
-    ghost use Rattle.std.specs.Prelude.{Err, None, Ok, ⊤};
-    ghost use Rattle.frame_table.specs.OfCapture.{fault_of};
-    ghost use Rattle.frame_table.specs.TakenRows.{StopsAt, TakesRows, stops_sooner, stops_unread, takes_both, takes_none};
+impl<A: Allocator + Clone, B: Allocator, W: Write, H: Watch> EventTaker<W, H> for Tabled<'_, A, B> {
+    ghost use Rattle.frame_table.specs.TakenRows.{StopsKept, TakesKept, kept_both, kept_later, kept_none, kept_untold};
     ghost use Rattle.frame_table.specs.Walk.{place};
 
-    ghost ready = { λ s. ⊤ };
-
-    ghost took = { λ es rs s w h t v k. TakesRows H.alerted None rs
+    ghost took = { λ rs s w h t v k. TakesKept H.alerted s.streams.now t.streams.now rs
         (place s.port.port s.arrivals (W.contents w) h)
         (place t.port.port t.arrivals (W.contents v) k) };
 
-    ghost cut = { λ es rs stop s w h t v k. StopsAt H.alerted None rs (fault_of stop)
+    ghost cut = { λ rs halt s w h t v k. StopsKept H.alerted s.streams.now rs halt
         (place s.port.port s.arrivals (W.contents w) h)
         (place t.port.port t.arrivals (W.contents v) k) };
 
-    fn take_line(
-        &mut self,
-        octets: &[u8],
-        line: KeptLine,
-        out: &mut W,
-        watch: &mut H,
-    ) -> Result<(), Stop> {
-        // For the prover: a call on a port says what holds of every port.
-        let _now = self.port.now();
-        match line {
-            KeptLine::Clock(moment) => self.take(&Event::Clock(moment), out, watch),
-            KeptLine::Query => self.take(&Event::Query, out, watch),
-            KeptLine::Count(class) => self.take(&Event::Count(class), out, watch),
-            KeptLine::Tc { start, end, number } => {
-                take_tc(&mut self.port, number, &octets[start..end], watch);
-                Ok(())
-            }
-        }
+    fn take_event(&mut self, event: &Event<'_>, out: &mut W, watch: &mut H) -> Result<(), Halt> {
+        take_event(
+            &mut self.port,
+            &mut self.arrivals,
+            event,
+            self.streams,
+            out,
+            watch,
+        )
     }
 
-    fn take_record(
+    fn take_tc(
         &mut self,
-        moment: u128,
+        place: &mut CommandPlace,
         number: u32,
-        record: &Record<'_>,
-        out: &mut W,
+        line: &[u8],
+        _out: &mut W,
         watch: &mut H,
-    ) -> Result<(), Stop> {
-        self.take(&Event::Clock(moment), out, watch)?;
-        let frame = frame_of(record, u64::from(number));
-        self.take(&Event::Arrive(frame), out, watch)?;
-        watch.records_taken(number.saturating_add(1), moment);
+    ) -> Result<(), Halt> {
+        take_tc(place, &mut self.port, number, line, watch);
         Ok(())
     }
 
-    fn let_out(&mut self, out: &mut W, _watch: &mut H) -> Result<(), Stop> {
+    fn rests(&mut self, event: &Event<'_>) -> bool {
+        rests(&mut self.port, event)
+    }
+
+    fn waits(&mut self, out: &mut W) -> Result<(), Halt> {
         if out.flush().is_err() {
-            return Err(Stop::Write);
+            return Err(Halt::Write);
         }
         Ok(())
     }
 
-    ghost nothing = { λ es s w h. takes_none H.alerted None
+    ghost nothing = { λ s w h. kept_none H.alerted s.streams.now
         (place s.port.port s.arrivals (W.contents w) h) };
 
-    ghost both = { λ es xs ys s t u w v x h k l. takes_both H.alerted None (Ok tt) xs ys
-        (place u.port.port u.arrivals (W.contents x) l) };
+    ghost both = { λ xs ys s t u w v x h k l. kept_both H.alerted s.streams.now t.streams.now
+        u.streams.now xs ys (place u.port.port u.arrivals (W.contents x) l) };
 
-    ghost cut_later = { λ es xs ys stop s t u w v x h k l. takes_both H.alerted None
-        (Err (fault_of stop)) xs ys (place u.port.port u.arrivals (W.contents x) l) };
+    ghost cut_later = { λ xs ys halt s t u w v x h k l. kept_later H.alerted s.streams.now
+        t.streams.now xs ys halt (place u.port.port u.arrivals (W.contents x) l) };
 
-    ghost cut_sooner = { λ es xs ys stop s t w v h k. stops_sooner H.alerted None
-        (fault_of stop) xs ys };
-
-    ghost cut_unread = { λ es xs ys s t w v h k. stops_unread H.alerted None xs ys };
+    ghost untold = { λ s w h k. kept_untold H.alerted s.streams.now H.both
+        (place s.port.port s.arrivals (W.contents w) h) k };
 }

@@ -7,7 +7,7 @@ use Rattle.frame_table.proofs.table_run.put_table.Goals as goal
 pub returns-in_err-put_head-clause-table : goal.returns-in_err-put_head-clause-table
 returns-in_err-put_head-clause-table g c = λ read is.
     let p = err_from_is_err_and c.from_residual.result c.from_residual.ensures.1 in
-    no_head_of c.args.rows.now.streams.now _ _ _ _ (p.1 ∙ ap Err p.2) c.in_err-put_head.ensures
+    no_head_of c.args.tabled.now.streams.now _ _ _ _ (p.1 ∙ ap Err p.2) c.in_err-put_head.ensures
 
 pub returns-in_err-put_head-clause-alerts : goal.returns-in_err-put_head-clause-alerts
 returns-in_err-put_head-clause-alerts g c = λ read is.
@@ -15,7 +15,7 @@ returns-in_err-put_head-clause-alerts g c = λ read is.
     watched_before g.H.Watch.alerted g.met.H.Watch.nothing _ _ c.args.watch.now _ (p.1 ∙ ap Err p.2)
 
 pub returns-clause-table : goal.returns-clause-table
-returns-clause-table g c = λ read is. head_of c.args.rows.now.streams.now _ _ _ _ _ _ c.in_ok-put_head.ensures (c.put_lines.ensures.table read is)
+returns-clause-table g c = λ read is. head_of c.args.tabled.now.streams.now _ _ _ _ _ _ c.in_ok-put_head.ensures (c.put_lines.ensures.table read is)
 
 pub returns-clause-alerts : goal.returns-clause-alerts
 returns-clause-alerts g c = c.put_lines.ensures.alerts
