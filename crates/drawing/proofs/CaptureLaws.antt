@@ -1,5 +1,5 @@
 -- A run on a script and a capture that is drawn, from what its parts leave.
-use Rattle.std.proofs.Common.{◌≡◌, ℕ, List, length, false, true, Option, Some, None, Result, Ok, Err, inl, inr, refl, sym, ap, ap₂, ◌∙◌, subst}
+use Rattle.std.proofs.Common.{◌≡◌, ℕ, List, length, false, true, Option, Some, None, Result, Ok, Err, inl, inr, refl, sym, ap, ◌∙◌, subst}
 use Rattle.std.specs.Prelude.{IfSome}
 use Rattle.std.specs.Io.KnownBytes.{Appends}
 use Rattle.std.proofs.KnownBytes.{Keeps-refl}
@@ -11,25 +11,27 @@ use Rattle.job.specs.declared.fault.Fault.TheVariants as Faults
 use Rattle.job.specs.declared.report.Ended.{Ended}
 use Rattle.job.proofs.RunEndLaws.{ended, out_by}
 use Rattle.picture.specs.Drawn.{Drawing, new_drawing}
+use Rattle.replay.specs.ByEvents.{StopsIn}
 use Rattle.replay.specs.Lines as Beside
 use Rattle.replay.specs.Outcome.{IsOpenFault, ended_by}
 use Rattle.replay.specs.WholeScript.{IsScriptFault}
 use Rattle.replay.specs.declared.faults.ReplayInput.TheVariants as Inputs
+use Rattle.replay.specs.declared.faults.Stop.{Stop}
+use Rattle.replay.specs.declared.faults.Stop.TheVariants as Stops
 use Rattle.replay.proofs.EndLaws.{no_fault, some_fault}
 use Rattle.replay.proofs.ReplayLaws.{known_at, when_known}
-use Rattle.script.specs.Responses.{events_of}
 use Rattle.script.specs.Setup.{Setup}
+use Rattle.script.specs.Walked.{Taking}
 use Rattle.text.specs.Script.{script_of}
 use Rattle.text.specs.Writes.{FallsShort}
 use Rattle.text.proofs.Fronts.{Appends-nil, front_of_short}
-use Rattle.drawing.specs.Course.{seen_after}
 use Rattle.drawing.specs.Followed.{BandsOfRequests, BandsTo}
 use Rattle.drawing.specs.OfCapture.{BandsOfCapture, BandsRead, picture_said, refused}
 use Rattle.drawing.specs.PictureEnd.{picture_by, picture_to}
-use Rattle.drawing.specs.Words.{AbstractPort, BadLine, BandsOfBoth, CapFault, Command, Course, DrawsAll, End, EndsSo, Entry, Fault, ForSomeBands, IsCapturePicture, IsDrawnBeside, IsDrawnWhole, IsReader, IsSoundPort, Place, ReadsAs, ReplayInput, Request, TcFault, WhereWhole, asked_to, came_from, first_place, is_too_late, merged, picture_of_capture, picture_read, port_on, replay_telling, run_end, timed_from}
+use Rattle.drawing.specs.Words.{AbstractPort, BadLine, BandsOfBoth, CapFault, Command, DrawsAll, End, EndsSo, Entry, Fault, ForSomeBands, IsCapturePicture, IsDrawnBeside, IsDrawnWhole, IsReader, IsSoundPort, Place, ReadsAs, ReplayInput, Request, TcFault, WhereWhole, asked_to, came_from, first_place, is_too_late, merged, picture_of_capture, picture_read, port_on, replay_telling, run_end, timed_from}
 use Rattle.drawing.specs.declared.options.DrawOptions.{DrawOptions}
-use Rattle.drawing.proofs.EndLaws.{front_of_nothing, map_bands, with_some}
-use Rattle.drawing.proofs.WalkLaws.{bands_drawn, drawn_from}
+use Rattle.drawing.proofs.EndLaws.{front_of_nothing, map_bands, no_halt, with_some}
+use Rattle.drawing.proofs.WalkLaws.{bands_to_end, picture_drawn}
 
 -- 1. The end
 
@@ -45,22 +47,15 @@ module _ (s : Setup) (o : DrawOptions) (script : List Request) (entries : List E
   asked = merged (timed_from 0 script) (came_from 0 0 entries)
 
   module _ (law : IsSettling) (x y : Place) (first : x ≡ first_place s o) (sound : IsSoundPort x.port) (drawn : DrawsAll s o asked x y) where
-    -- the picture after all requests is that of both
-    pub picture_same : (b : Drawing) → picture_to (Some (run_end s.until)) s o y.port y.course b ≡ picture_by (Some (run_end s.until)) s o asked x.port x.course b
-    picture_same b =
-        let both = drawn_from s o law asked x y sound drawn in
-        ap₂ (λ (p : AbstractPort) (c : Course). picture_to (Some (run_end s.until)) s o p c b) both.0 both.1
-
     pub text_of_both : (b : Drawing) → picture_to (Some (run_end s.until)) s o y.port y.course b ≡ (picture_read s o script (Ok (entries, last)) b).text
-    text_of_both b = picture_same b ∙ ap (λ (u : Place). picture_by (Some (run_end s.until)) s o asked u.port u.course b) first
+    text_of_both b =
+        picture_drawn s o law (Some (run_end s.until)) asked x y sound drawn b
+        ∙ ap (λ (u : Place). picture_by (Some (run_end s.until)) s o asked u.port u.course b) first
 
     pub bands_of_both : (b : Drawing) → BandsTo (Some (run_end s.until)) s o y.port y.course y.bands b → BandsOfBoth s o script entries b
     bands_of_both b at_end =
-        let both = drawn_from s o law asked x y sound drawn in
-        let P : AbstractPort → Type 0 = λ p. BandsTo (Some (run_end s.until)) s o p (seen_after (events_of asked) x.port x.course) y.bands b in
-        let Q : Course → Type 0 = λ c. BandsTo (Some (run_end s.until)) s o y.port c y.bands b in
-        let all : BandsOfRequests (Some (run_end s.until)) s o asked x.port x.course x.bands b = (y.bands, (bands_drawn s o asked x y drawn, subst P both.0 (subst Q both.1 at_end))) in
-        subst (λ (u : Place). BandsOfRequests (Some (run_end s.until)) s o asked u.port u.course u.bands b) first all
+        let P : Place → Type 0 = λ u. BandsOfRequests (Some (run_end s.until)) s o asked u.port u.course u.bands b in
+        subst P first (bands_to_end s o law (Some (run_end s.until)) asked x y sound drawn b at_end)
 
     -- a write of it fails
     pub both_short : {T : Type 0} {r : Result T (Fault ReplayInput)} (old new : Option (List ℕ)) → r ≡ Err Faults.Write
@@ -85,6 +80,12 @@ module _ (s : Setup) (o : DrawOptions) (script : List Request) (entries : List E
   both_unread {T} {r} old e =
       let P : Result T (Fault ReplayInput) → Type 0 = λ q. ForSomeBands (λ b. WhereWhole q (BandsOfBoth s o script entries b) × IsDrawnWhole q old old (picture_read s o script (Ok (entries, last)) b)) in
       subst P (sym e) (with_some (tt, Keeps-refl old))
+
+-- a run of which no call fails stops where a read did
+pub stops_unread : {S W H : Type 0} (took : Taking S W H) (requests : List Request) (stop : Stop) (d : S) (w : W) (h : H) (e : S) (v : W) (k : H) → StopsIn took no_halt requests stop d w h e v k → stop ≡ Stops.Read
+stops_unread took requests Stops.Read d w h e v k stops = refl
+stops_unread took requests Stops.Write d w h e v k stops = absurd stops.halted
+stops_unread took requests Stops.Memory d w h e v k stops = absurd stops.halted
 
 -- 3. By the octets of both
 

@@ -1,13 +1,13 @@
 -- The end of a run that is drawn, from what its parts leave.
-use Rattle.std.proofs.Common.{◌≡◌, ◌≤◌, ◌*◌, ℕ, List, [], Option, Some, None, Result, Ok, Err, append-nil, refl, sym, ap, ap₂, ◌∙◌, subst, arith, inl, inr}
+use Rattle.std.proofs.Common.{◌≡◌, ◌≤◌, ◌*◌, ℕ, List, [], Option, Some, None, Result, Ok, Err, append-nil, refl, sym, ap, ◌∙◌, subst, arith, inl, inr}
 use Rattle.std.specs.Prelude.{IfSome}
 use Rattle.std.specs.Io.KnownBytes.{Appends, Keeps}
 use Rattle.std.proofs.KnownBytes.{Keeps-refl}
-use Rattle.abstract_port.specs.Answers.{port_after}
+use Rattle.abstract_port.specs.Settled.{IsSettling}
 use Rattle.text.specs.Writes.{AppendsFront, FallsShort}
 use Rattle.text.proofs.Fronts.{Appends-nil, front_of_short}
 use Rattle.picture.specs.Drawn.{Drawing, new_drawing, no_classes}
-use Rattle.drawing.specs.Words.{AbstractPort, Command, Script, Fault, IsReader, MOST_SHAPES, TcFault, Reading, reading_of, BadLine, Course, BandsOf, ForSomeBands, IsDrawEnding, IsDrawn, IsDrawnFrom, WhereDrawn, WhereOk, Takes, outcome_drawn, picture_after, picture_of, settled}
+use Rattle.drawing.specs.Words.{AbstractPort, BadLine, BandsOf, Command, Course, DrawsAll, Fault, ForSomeBands, IsDrawEnding, IsDrawn, IsDrawnFrom, IsReader, IsSoundPort, MOST_SHAPES, Place, Reading, Script, TcFault, WhereDrawn, WhereOk, outcome_drawn, picture_after, picture_of, reading_of}
 unfoldable use Rattle.drawing.specs.Words.{bands_to}
 use Rattle.text.specs.Script.{script_of}
 use Rattle.job.specs.Outcome.{Outcome, RunsOut}
@@ -15,18 +15,18 @@ use Rattle.job.specs.RunEnd.{IsEndOf, IsOrFails}
 use Rattle.job.specs.declared.fault.Fault.TheVariants as Faults
 use Rattle.job.specs.declared.report.Ended.{Ended}
 use Rattle.job.proofs.RunEndLaws.{ended, out_by}
-use Rattle.script.specs.Responses.{events_of}
 use Rattle.script.specs.Setup.{Setup}
 use Rattle.script.specs.Texts.{script_telling}
+use Rattle.script.specs.Walked.{Halting, Taking, Walked}
 use Rattle.script.specs.declared.settings.BadValue.{BadValue}
-use Rattle.drawing.specs.Course.{seen_after}
-use Rattle.drawing.specs.Followed.{BandsAfter, BandsAtEnd, BandsOfReading, first_bands}
-use Rattle.drawing.specs.PictureEnd.{IsPictureEnding, drawn_with, first_course}
+use Rattle.drawing.specs.Followed.{BandsAtEnd, BandsOfReading, first_bands}
+use Rattle.drawing.specs.PictureEnd.{IsPictureEnding, drawn_with, first_course, picture_by}
 use Rattle.abstract_port.specs.AbstractPort.{new_port}
 use Rattle.drawing.specs.declared.options.DrawOptions.{DrawOptions}
 use Rattle.drawing.specs.declared.page.TheConstants.{WIRE}
+use Rattle.drawing.proofs.WalkLaws.{bands_to_end, picture_drawn}
 
--- 1. Runs of lines, by what the lines leave
+-- 1. Runs of lines, by what a walk over them leaves
 
 -- some bands
 no_bands_at_all : bands_to WIRE no_classes no_classes ≤ 2 * WIRE * MOST_SHAPES
@@ -40,58 +40,52 @@ with_some p = (new_drawing 0 None, (no_bands_at_all, p))
 pub map_bands : {P Q : Drawing → Type 0} → ((bands : Drawing) → P bands → Q bands) → ForSomeBands P → ForSomeBands Q
 map_bands f (bands, (few, p)) = (bands, (few, f bands p))
 
+-- a taker of which no call fails
+abbrev pub no_halt : {S W H : Type 0} → Halting S W H
+no_halt requests halt s w h t v k = ⊥
+
 module _ (s : Setup) (o : DrawOptions) where
-  -- the lines stop at a fault, and nothing is written
-  pub stopped : {T : Type 0} {f : Result T (Fault BadLine)} (S : Type 0) (fault : Fault BadLine) (reading : Script → Reading) (all : Option Script) (p q : AbstractPort) (x y : Course) (d : Drawing) (old : Option (List ℕ)) → f ≡ Err fault
-      → IfSome all (λ script. Takes {T = S} (Err fault) (reading script) p x q y) → IfSome all (λ script. IsDrawnFrom s o (reading script) p x d f old old)
-  stopped S fault reading None p q x y d old e taken = tt
-  stopped {T} {f} S (Faults.Input bad) reading (Some script) p q x y d old e taken =
-      let P : Result T (Fault BadLine) → Type 0 = λ r. IsDrawnFrom s o (reading script) p x d r old old in
-      let text = λ (bands : Drawing). picture_after s o (settled (port_after (events_of (reading script).requests) p)) (seen_after (events_of (reading script).requests) p x) bands in
-      let none = text (new_drawing 0 None) in
-      subst P (sym e) (with_some (tt, (ap (λ first. (drawn_with none first).fault) taken, subst (λ first. Appends old old (drawn_with none first).text) (sym taken) (Appends-nil old))))
-  stopped {T} {f} S Faults.Read reading (Some script) p q x y d old e taken =
-      let P : Result T (Fault BadLine) → Type 0 = λ r. IsDrawnFrom s o (reading script) p x d r old old in
-      subst P (sym e) (with_some (tt, Keeps-refl old))
-  stopped S Faults.Write reading (Some script) p q x y d old e taken = absurd taken
-  stopped S Faults.Memory reading (Some script) p q x y d old e taken = absurd taken
+  -- the walk stops at a fault, and nothing is written
+  stopped_by : (T U : Type 0) {S W H : Type 0} (took : Taking S W H) (fault : Fault BadLine) (reading : Reading) (d : S) (w : W) (h : H) (e : S) (v : W) (k : H) (x : Place) (old : Option (List ℕ))
+      → Walked took no_halt {T = U} reading (Err fault) d w h e v k → IsDrawnFrom {T = T} s o reading x.port x.course x.bands (Err fault) old old
+  stopped_by T U took (Faults.Input bad) reading d w h e v k x old walked =
+      let none = picture_by s.until s o reading.requests x.port x.course (new_drawing 0 None) in
+      with_some (tt, (ap (λ first. (drawn_with none first).fault) walked.0, subst (λ first. Appends old old (drawn_with none first).text) (sym walked.0) (Appends-nil old)))
+  stopped_by T U took Faults.Read reading d w h e v k x old walked = with_some (tt, Keeps-refl old)
+  stopped_by T U took Faults.Write reading d w h e v k x old walked = absurd walked.halted
+  stopped_by T U took Faults.Memory reading d w h e v k x old walked = absurd walked.halted
 
-  -- the picture after known lines, with what they leave
-  after_lines : (reading : Reading) (p q : AbstractPort) (x y : Course) (bands : Drawing) → reading.fault ≡ None → q ≡ settled (port_after (events_of reading.requests) p) → y ≡ seen_after (events_of reading.requests) p x
-      → picture_after s o q y bands ≡ (outcome_drawn s o reading p x bands).text
-  after_lines reading p q x y bands none port course =
-      ap₂ (λ a b. picture_after s o a b bands) port course
-      ∙ sym (ap (λ first. (drawn_with (picture_after s o (settled (port_after (events_of reading.requests) p)) (seen_after (events_of reading.requests) p x) bands) first).text) none)
+  pub stopped : {T : Type 0} {f : Result T (Fault BadLine)} (U : Type 0) {S W H : Type 0} (took : Taking S W H) (fault : Fault BadLine) (reading : Script → Reading) (all : Option Script) (d : S) (w : W) (h : H) (e : S) (v : W) (k : H) (x : Place) (old : Option (List ℕ))
+      → f ≡ Err fault → IfSome all (λ script. Walked took no_halt {T = U} (reading script) (Err fault) d w h e v k) → IfSome all (λ script. IsDrawnFrom s o (reading script) x.port x.course x.bands f old old)
+  stopped U took fault reading None d w h e v k x old is walked = tt
+  stopped {T} {f} U took fault reading (Some script) d w h e v k x old is walked =
+      let P : Result T (Fault BadLine) → Type 0 = λ r. IsDrawnFrom s o (reading script) x.port x.course x.bands r old old in
+      subst P (sym is) (stopped_by T U took fault (reading script) d w h e v k x old walked)
 
-  no_fault : (reading : Reading) (p : AbstractPort) (x : Course) (bands : Drawing) → reading.fault ≡ None → (outcome_drawn s o reading p x bands).fault ≡ None
-  no_fault reading p x bands none =
-      ap (λ first. (drawn_with (picture_after s o (settled (port_after (events_of reading.requests) p)) (seen_after (events_of reading.requests) p x) bands) first).fault) none
+  module _ (law : IsSettling) (reading : Reading) (x y : Place) (none : reading.fault ≡ None) (sound : IsSoundPort x.port) (drawn : DrawsAll s o reading.requests x y) where
+    -- the picture after all lines is that of them
+    text_of_lines : (b : Drawing) → picture_after s o y.port y.course b ≡ (outcome_drawn s o reading x.port x.course b).text
+    text_of_lines b =
+        picture_drawn s o law s.until reading.requests x y sound drawn b
+        ∙ sym (ap (λ first. (drawn_with (picture_by s.until s o reading.requests x.port x.course b) first).text) none)
 
-  -- the bands after known lines, with what they leave
-  bands_of_lines : (reading : Reading) (p q : AbstractPort) (x y : Course) (d mid bands : Drawing) → q ≡ settled (port_after (events_of reading.requests) p) → y ≡ seen_after (events_of reading.requests) p x
-      → BandsAfter s o reading.requests p x d mid → BandsAtEnd s o q y mid bands → BandsOfReading s o reading p x d bands
-  bands_of_lines reading p q x y d mid bands port course after at_end =
-      (mid, (after, subst (λ (n : AbstractPort). BandsAtEnd s o n (seen_after (events_of reading.requests) p x) mid bands) port (subst (λ (n : Course). BandsAtEnd s o q n mid bands) course at_end)))
+    no_fault : (b : Drawing) → (outcome_drawn s o reading x.port x.course b).fault ≡ None
+    no_fault b = ap (λ first. (drawn_with (picture_by s.until s o reading.requests x.port x.course b) first).fault) none
 
-  -- a write fails after all lines
-  pub not_written : {T S : Type 0} {f : Result T (Fault BadLine)} (t : S) (reading : Script → Reading) (all : Option Script) (p q : AbstractPort) (x y : Course) (d mid : Drawing) (old new : Option (List ℕ)) → f ≡ Err Faults.Write
-      → ForSomeBands (λ bands. BandsAtEnd s o q y mid bands × FallsShort old new (picture_after s o q y bands))
-      → IfSome all (λ script. Takes (Ok t) (reading script) p x q y) → IfSome all (λ script. BandsAfter s o (reading script).requests p x d mid) → IfSome all (λ script. IsDrawnFrom s o (reading script) p x d f old new)
-  not_written t reading None p q x y d mid old new e (bands, (few, short)) taken after = tt
-  not_written {T} {S} {f} t reading (Some script) p q x y d mid old new e (bands, (few, short)) taken after =
-      let P : Result T (Fault BadLine) → Type 0 = λ r. IsDrawnFrom s o (reading script) p x d r old new in
-      let same = after_lines (reading script) p q x y bands taken.0 taken.1 taken.2 in
-      subst P (sym e) (bands, (few, (bands_of_lines (reading script) p q x y d mid bands taken.1 taken.2 after short.0, (no_fault (reading script) p x bands taken.0, subst (FallsShort old new) same short.1))))
+    bands_of_lines : (b : Drawing) → BandsAtEnd s o y.port y.course y.bands b → BandsOfReading s o reading x.port x.course x.bands b
+    bands_of_lines b at_end = bands_to_end s o law s.until reading.requests x y sound drawn b at_end
 
-  -- all is written after all lines
-  pub written : {T S : Type 0} {f : Result T (Fault BadLine)} (t : S) (z : T) (reading : Script → Reading) (all : Option Script) (p q : AbstractPort) (x y : Course) (d mid : Drawing) (old new : Option (List ℕ)) → f ≡ Ok z
-      → ForSomeBands (λ bands. BandsAtEnd s o q y mid bands × Appends old new (picture_after s o q y bands))
-      → IfSome all (λ script. Takes (Ok t) (reading script) p x q y) → IfSome all (λ script. BandsAfter s o (reading script).requests p x d mid) → IfSome all (λ script. IsDrawnFrom s o (reading script) p x d f old new)
-  written t z reading None p q x y d mid old new e (bands, (few, all)) taken after = tt
-  written {T} {S} {f} t z reading (Some script) p q x y d mid old new e (bands, (few, all)) taken after =
-      let P : Result T (Fault BadLine) → Type 0 = λ r. IsDrawnFrom s o (reading script) p x d r old new in
-      let same = after_lines (reading script) p q x y bands taken.0 taken.1 taken.2 in
-      subst P (sym e) (bands, (few, (bands_of_lines (reading script) p q x y d mid bands taken.1 taken.2 after all.0, (no_fault (reading script) p x bands taken.0, subst (Appends old new) same all.1))))
+    -- a write of it fails
+    pub not_written : {T : Type 0} {f : Result T (Fault BadLine)} (old new : Option (List ℕ)) → f ≡ Err Faults.Write
+        → ForSomeBands (λ b. BandsAtEnd s o y.port y.course y.bands b × FallsShort old new (picture_after s o y.port y.course b)) → IsDrawnFrom s o reading x.port x.course x.bands f old new
+    not_written {T} {f} old new e w =
+        let P : Result T (Fault BadLine) → Type 0 = λ r. IsDrawnFrom s o reading x.port x.course x.bands r old new in
+        subst P (sym e) (map_bands (λ b h. (bands_of_lines b h.0, (no_fault b, subst (FallsShort old new) (text_of_lines b) h.1))) w)
+
+    -- all of it is written
+    pub written : {T : Type 0} (z : T) (old new : Option (List ℕ))
+        → ForSomeBands (λ b. BandsAtEnd s o y.port y.course y.bands b × Appends old new (picture_after s o y.port y.course b)) → IsDrawnFrom s o reading x.port x.course x.bands (Ok z) old new
+    written z old new w = map_bands (λ b h. (bands_of_lines b h.0, (no_fault b, subst (Appends old new) (text_of_lines b) h.1))) w
 
   -- when out of memory nothing is written
   pub without_memory : {T : Type 0} {S : Type 0} {f : Result T (Fault BadLine)} (all : Option S) (reading : S → Reading) (p : AbstractPort) (x : Course) (d : Drawing) (old : Option (List ℕ)) → f ≡ Err Faults.Memory

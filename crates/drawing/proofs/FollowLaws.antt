@@ -1,17 +1,20 @@
--- How the bands of a run follow its port, line by line.
-use Rattle.std.proofs.Common.{◌≡◌, ℕ, List, true, false, Option, Some, None, Result, Ok, Err, refl, sym, ap, subst}
-use Rattle.std.specs.Prelude.{IfSome, OnOk, ⊤}
+-- How the bands of a run follow its port.
+use Rattle.std.proofs.Common.{◌≡◌, ℕ, List, [], ◌∷◌, true, refl, sym, ap, ◌∙◌, subst}
 use Rattle.std.proofs.lemmas.Bool.{true≢false}
-use Rattle.drawing.specs.Words.{AbstractPort, Command, TcFault, Script, Request, request_of, Reading, reading_of, ScriptFault, Course, TakesLine, seen_by}
+use Rattle.abstract_port.specs.declared.Answer.{Answer}
 use Rattle.abstract_port.specs.declared.Event.{Event}
 use Rattle.abstract_port.specs.declared.Event.TheVariants.{Arrive, Install, Clock, Query, Count}
-use Rattle.text.specs.LineReader.{Advances}
-use Rattle.script.specs.Outcome.{with_line}
 use Rattle.script.specs.Setup.{Setup}
+use Rattle.script.specs.Walked.{IsSilent}
 use Rattle.picture.specs.Drawn.{Drawing}
-use Rattle.drawing.specs.Course.{no_command}
-use Rattle.drawing.specs.Followed.{BandsAfter, BandsOfLine, BandsOn, FollowsEvent}
+use Rattle.drawing.specs.Course.{asked_at, no_command}
+use Rattle.drawing.specs.Followed.{BandsOn, FollowsEvent, IsFollowed}
+use Rattle.drawing.specs.Options.{view_of}
+use Rattle.drawing.specs.Words.{AbstractPort, Asks, Course, Draws, answers_to, seen_all, seen_at}
+use Rattle.drawing.specs.declared.drawn.Drawn.{Drawn}
 use Rattle.drawing.specs.declared.options.DrawOptions.{DrawOptions}
+use Rattle.drawing.specs.declared.view.View.{View}
+use Rattle.drawing.proofs.WalkLaws.{draws_one}
 
 -- an event that gives no command moves the bands
 pub moved : (s : Setup) (o : DrawOptions) (event : Event) (p : AbstractPort) (x : Course) (d new : Drawing) → no_command event ≡ true → FollowsEvent o event p x d new → BandsOn s o event p x d new
@@ -21,50 +24,30 @@ moved s o (Clock m) p x d new none f' = f'
 moved s o Query p x d new none f' = f'
 moved s o (Count class) p x d new none f' = f'
 
--- what holds anyway holds of a script, if there is one
-pub any_some : {S : Type 0} (all : Option S) → IfSome all (λ s. ⊤)
-any_some None = tt
-any_some (Some s) = tt
+-- a command is answered
+is_answered : (answer : Answer) (rest : List Answer) → answer ∷ rest ≡ [] → ⊥
+is_answered answer rest none = cc
 
--- what holds where a run is done holds of a run that is not
-pub not_done : {S T E : Type 0} {f : Result T E} (e : E) (all : Option S) (P : S → Type 0) → f ≡ Err e → IfSome all (λ s. OnOk f (P s))
-not_done e None P h = tt
-not_done {T = T} {E = E} {f = f} e (Some s) P h = subst (λ (r : Result T E). OnOk r (P s)) (sym h) tt
+-- so an event that isn't gives none
+pub unanswered : (event : Event) (p : AbstractPort) → (answers_to event p).0 ≡ [] → no_command event ≡ true
+unanswered (Arrive f) p none = refl
+unanswered (Install c) p none = absurd (is_answered _ [] none)
+unanswered (Clock m) p none = refl
+unanswered Query p none = refl
+unanswered (Count class) p none = refl
 
-module _ (read : List (List ℕ) → Result Command TcFault) (s : Setup) (o : DrawOptions) where
-  -- What the lines to come make of the bands is, from the first line on, what all make of them.
-  abbrev pub Follows : AbstractPort → Course → Drawing → (all left : Option Script) → AbstractPort → Course → Drawing → Type 0
-  Follows p0 x0 d0 None left p x d = ⊤
-  Follows p0 x0 d0 (Some all) None p x d = ⊥
-  Follows p0 x0 d0 (Some all) (Some script) p x d =
-      (new : Drawing) → BandsAfter s o (reading_of read script).requests p x d new → BandsAfter s o (reading_of read all).requests p0 x0 d0 new
-
-  pub follows_first : (p : AbstractPort) (x : Course) (d : Drawing) (all : Option Script) → Follows p x d all all p x d
-  follows_first p x d None = tt
-  follows_first p x d (Some script) = λ new after. after
-
-  -- one line before the others
-  before : {T : Type 0} (t : T) (asked : Result (Option Request) ScriptFault) (number : ℕ) (rest : Reading) (p : AbstractPort) (x : Course) (d : Drawing) (q : AbstractPort) (y : Course) (e new : Drawing)
-      → TakesLine {T = T} (Ok t) asked p x q y → BandsOfLine s o asked p x d e → BandsAfter s o rest.requests q y e new → BandsAfter s o (with_line number asked rest).requests p x d new
-  before t (Ok None) number rest p x d q y e new taken bands after =
-      subst (λ n. BandsAfter s o rest.requests n x d new) taken.0 (subst (λ n. BandsAfter s o rest.requests q n d new) taken.1 (subst (λ n. BandsAfter s o rest.requests q y n new) bands after))
-  before t (Ok (Some r)) number rest p x d q y e new taken bands after =
-      (e, (bands, subst (λ n. BandsAfter s o rest.requests n (seen_by r p x) e new) taken.0 (subst (λ n. BandsAfter s o rest.requests q n e new) taken.1 after)))
-  before t (Err fault) number rest p x d q y e new taken bands after = absurd taken
-
-  pub follows_more : {T : Type 0} (t : T) (p0 : AbstractPort) (x0 : Course) (d0 : Drawing) (number : ℕ) (line : List ℕ) (p : AbstractPort) (x : Course) (d : Drawing) (q : AbstractPort) (y : Course) (e : Drawing) (all left on : Option Script)
-      → Follows p0 x0 d0 all left p x d → Advances left (Ok true) number line on → TakesLine {T = T} (Ok t) (request_of read line) p x q y → BandsOfLine s o (request_of read line) p x d e → Follows p0 x0 d0 all on q y e
-  follows_more t p0 x0 d0 number line p x d q y e None left on so_far a taken bands = tt
-  follows_more t p0 x0 d0 number line p x d q y e (Some all) None on so_far a taken bands = absurd so_far
-  follows_more t p0 x0 d0 number line p x d q y e (Some all) (Some script) on so_far (rest, left, is) taken bands =
-      let P : Option Script → Type 0 = λ u. Follows p0 x0 d0 (Some all) u q y e in
-      subst P (sym left) (λ new after. so_far new
-      (subst (λ (r : Reading). BandsAfter s o r.requests p x d new) (sym (ap (reading_of read) is)) (before t (request_of read line) number (reading_of read rest) p x d q y e new taken bands after)))
-
-  -- the lines end
-  pub follows_end : (p0 : AbstractPort) (x0 : Course) (d0 : Drawing) (number : ℕ) (line : List ℕ) (p : AbstractPort) (x : Course) (d : Drawing) (all left on : Option Script)
-      → Follows p0 x0 d0 all left p x d → Advances left (Ok false) number line on → IfSome all (λ script. BandsAfter s o (reading_of read script).requests p0 x0 d0 d)
-  follows_end p0 x0 d0 number line p x d None left on so_far a = tt
-  follows_end p0 x0 d0 number line p x d (Some all) None on so_far a = absurd so_far
-  follows_end p0 x0 d0 number line p x d (Some all) (Some script) on so_far a =
-      so_far d (subst (λ (r : Reading). BandsAfter s o r.requests p x d d) (sym (ap (reading_of read) a)) refl)
+-- a port rests in an event, and the bands follow it: the event is drawn
+pub rested : (event : Event) (d e : Drawn) (view : View) → IsSilent event d.port e.port → e.course ≡ d.course → view ≡ view_of d.options d.course.scope → IsFollowed view e.port.port.now d.bands e.bands
+    → e.settings ≡ d.settings → e.options ≡ d.options → Draws (Asks event ∷ []) d e
+rested event d e view silent course is followed settings options =
+    let p = d.port.port in
+    let same : d.course ≡ seen_at event p d.course = ap (λ (answers : List Answer). seen_all p.now (asked_at event p) answers d.course) (sym silent.answers) in
+    let now = ap (λ (q : AbstractPort). q.now) silent.port in
+    let shown = is ∙ ap (λ (x : Course). view_of d.options x.scope) same in
+    draws_one (Asks event) d e (record {
+      port = silent.port;
+      course = course ∙ same;
+      bands = moved d.settings d.options event p d.course d.bands e.bands (unanswered event p silent.answers)
+          (subst (λ (v : View). IsFollowed v (answers_to event p).1.now d.bands e.bands) shown (subst (λ (n : ℕ). IsFollowed view n d.bands e.bands) now followed));
+      sound = silent.sound;
+    }) settings options

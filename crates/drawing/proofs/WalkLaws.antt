@@ -1,13 +1,15 @@
 -- A run that is drawn request by request.
-use Rattle.std.proofs.Common.{◌≡◌, List, [], ◌∷◌, refl, sym, ap, ◌∙◌, subst}
+use Rattle.std.proofs.Common.{◌≡◌, ℕ, List, [], ◌∷◌, Option, refl, sym, ap, ap₂, ◌∙◌, subst}
 use Rattle.abstract_port.specs.Answers.{port_after}
 use Rattle.abstract_port.specs.Settled.{IsSettling}
 use Rattle.script.specs.Responses.{events_of, responses_to}
 use Rattle.script.specs.Setup.{Setup}
+use Rattle.picture.specs.Drawn.{Drawing}
 use Rattle.script.proofs.LineSteps.{StandsFor, stands-after, stands_for_itself}
 use Rattle.script.proofs.OutputLaws.{events-more}
 use Rattle.drawing.specs.Course.{seen_after}
-use Rattle.drawing.specs.Followed.{BandsAfter}
+use Rattle.drawing.specs.Followed.{BandsAfter, BandsOfRequests, BandsTo}
+use Rattle.drawing.specs.PictureEnd.{picture_by, picture_to}
 use Rattle.drawing.specs.Words.{AbstractPort, Course, Draws, DrawsAll, DrawsOne, IsSoundPort, Place, Request, drawn_place, seen_by, settled}
 use Rattle.drawing.specs.declared.drawn.Drawn.{Drawn}
 use Rattle.drawing.specs.declared.options.DrawOptions.{DrawOptions}
@@ -39,6 +41,22 @@ module _ (s : Setup) (o : DrawOptions) where
   pub drawn_from : IsSettling → (requests : List Request) (x y : Place) → IsSoundPort x.port → DrawsAll s o requests x y
       → (y.port ≡ settled (port_after (events_of requests) x.port)) × (y.course ≡ seen_after (events_of requests) x.port x.course)
   drawn_from law requests x y sound all = drawn_for law requests x y x.port (stands_for_itself x.port sound) all
+
+  -- from one place to another by requests, and then to the end
+  module _ (law : IsSettling) (upto : Option ℕ) (requests : List Request) (x y : Place) (sound : IsSoundPort x.port) (drawn : DrawsAll s o requests x y) where
+    -- the picture is that of the requests
+    pub picture_drawn : (b : Drawing) → picture_to upto s o y.port y.course b ≡ picture_by upto s o requests x.port x.course b
+    picture_drawn b =
+        let both = drawn_from law requests x y sound drawn in
+        ap₂ (λ (p : AbstractPort) (c : Course). picture_to upto s o p c b) both.0 both.1
+
+    -- and so are the bands
+    pub bands_to_end : (b : Drawing) → BandsTo upto s o y.port y.course y.bands b → BandsOfRequests upto s o requests x.port x.course x.bands b
+    bands_to_end b at_end =
+        let both = drawn_from law requests x y sound drawn in
+        let P : AbstractPort → Type 0 = λ p. BandsTo upto s o p (seen_after (events_of requests) x.port x.course) y.bands b in
+        let Q : Course → Type 0 = λ c. BandsTo upto s o y.port c y.bands b in
+        (y.bands, (bands_drawn requests x y drawn, subst P both.0 (subst Q both.1 at_end)))
 
 -- one request is
 pub draws_one : (r : Request) (d e : Drawn) → DrawsOne d.settings d.options r (drawn_place d) (drawn_place e) → e.settings ≡ d.settings → e.options ≡ d.options → Draws (r ∷ []) d e

@@ -16,7 +16,6 @@ use Rattle.script.specs.Requests.{Request, Asks, NoCommand}
 use Rattle.script.specs.Responses.{events_of, responses_to}
 use Rattle.script.specs.Outcome.{Reading}
 use Rattle.script.specs.Setup.{Setup}
-use Rattle.script.specs.declared.faults.ScriptFault.{ScriptFault}
 use Rattle.drawing.specs.Course.{Course, seen_after, seen_at}
 use Rattle.drawing.specs.Options.{view_of, viewport_shown}
 use Rattle.drawing.specs.Taken.{course_on, last_moment, port_on, seen_by}
@@ -90,12 +89,6 @@ BandsOn s o (Count class) p x d new = FollowsEvent o (Count class) p x d new
 abbrev pub BandsBy : Setup → DrawOptions → Request → AbstractPort → Course → Drawing → Drawing → Type 0
 BandsBy s o (Asks event) p x d new = BandsOn s o event p x d new
 BandsBy s o (NoCommand fault) p x d new = new ≡ d
-
--- by a line
-abbrev pub BandsOfLine : Setup → DrawOptions → Result (Option Request) ScriptFault → AbstractPort → Course → Drawing → Drawing → Type 0
-BandsOfLine s o (Ok None) p x d new = new ≡ d
-BandsOfLine s o (Ok (Some request)) p x d new = BandsBy s o request p x d new
-BandsOfLine s o (Err fault) p x d new = new ≡ d
 
 -- by one request after another
 abbrev pub BandsAfter : Setup → DrawOptions → List Request → AbstractPort → Course → Drawing → Drawing → Type 0

@@ -5,9 +5,7 @@ pub use Rattle.abstract_port.specs.Answers.{answers_to}
 pub use Rattle.abstract_port.specs.Asked.{answers_left}
 pub use Rattle.abstract_port.specs.Sound.{IsSoundPort}
 pub use Rattle.abstract_port.specs.declared.Command.{Command}
-pub use Rattle.abstract_port.specs.declared.Event.TheVariants.{Arrive, Clock}
 pub use Rattle.capture.specs.CaptureReader.{left}
-pub use Rattle.capture.specs.Record.{entry, frame_of}
 pub use Rattle.capture.specs.Records.{Entry}
 pub use Rattle.capture.specs.declared.fault.CapFault.{CapFault}
 pub use Rattle.capture.specs.declared.reader.End.{End}
@@ -19,7 +17,7 @@ pub use Rattle.job.specs.declared.fault.Fault.{Fault}
 pub use Rattle.picture.specs.Lanes.{Filled, joined_at, no_shapes}
 pub use Rattle.picture.specs.Viewports.{pixel_of, x_in}
 pub use Rattle.picture.specs.declared.TheConstants.{MOST_SHAPES}
-pub use Rattle.replay.specs.KeptScript.{IsKept, kept_request, kept_requests}
+pub use Rattle.replay.specs.KeptScript.{kept_requests}
 pub use Rattle.replay.specs.Merge.{came_from, merged, timed_from}
 pub use Rattle.replay.specs.Outcome.{ReadsAs, is_too_late}
 pub use Rattle.replay.specs.RecordsLeft.{Comes, EndsSo}
@@ -28,10 +26,9 @@ pub use Rattle.replay.specs.Texts.{replay_telling}
 pub use Rattle.replay.specs.declared.faults.ReplayInput.{ReplayInput}
 pub use Rattle.script.specs.ScriptEnd.{settings_given}
 pub use Rattle.script.specs.Given.{octets_of, words_of_values}
-pub use Rattle.script.specs.Outcome.{Reading, bad_line, reading_of}
-pub use Rattle.script.specs.Requests.{Asks, Request, request_of, tc_request}
+pub use Rattle.script.specs.Outcome.{Reading, reading_of}
+pub use Rattle.script.specs.Requests.{Asks, Request, tc_request}
 pub use Rattle.script.specs.declared.faults.BadLine.{BadLine}
-pub use Rattle.script.specs.declared.faults.ScriptFault.{ScriptFault}
 pub use Rattle.drawing.specs.Course.{Course, nothing_seen, seen_all, seen_at}
 unfoldable pub use Rattle.drawing.specs.Course.{all_wait_on}
 pub use Rattle.drawing.specs.PictureEnd.{BandsOf, ForSomeBands, IsDrawEnding, IsDrawn, IsDrawnFrom, WhereDrawn, WhereOk, outcome_drawn, picture_after, picture_of}
@@ -41,7 +38,7 @@ pub use Rattle.drawing.specs.Options.{beginning_in, end_in, is_open, options_of,
 pub use Rattle.drawing.specs.Scope.{frame_came, schedule_given, view_in}
 pub use Rattle.drawing.specs.Shapes.{IsJoined, change_drawn, in_time, drawn_in, empty_lanes, frame_drawn, is_drawn, lane_at, lane_of, nothing_shown, shape_count, shape_of, wait_drawn}
 unfoldable pub use Rattle.drawing.specs.Shapes.{bands_to, shapes_to, waits_on}
-pub use Rattle.drawing.specs.Taken.{Takes, TakesLine, course_on, last_moment, port_on, seen_by}
+pub use Rattle.drawing.specs.Taken.{course_on, last_moment, port_on, seen_by}
 pub use Rattle.drawing.specs.View.{shows}
 pub use Rattle.drawing.specs.OfCapture.{BandsOfBoth, IsCapturePicture, IsDrawnBeside, IsDrawnWhole, WhereWhole, asked_to, picture_of_capture, picture_read}
 pub use Rattle.drawing.specs.Walk.{Draws, DrawsAll, DrawsOne, Place, drawn_place, first_place}

@@ -16,8 +16,8 @@ use abstract_port::separation::settling;
 use capture::CaptureReader;
 use port_text::answer_text::WriteFault;
 use replay::{
-    KeptScript, ReplayFault, ReplayInput, ended_by, is_too_late, open_capture, read_script,
-    run_end, walk_both,
+    ByEvents, KeptScript, ReplayFault, ReplayInput, ended_by, is_too_late, open_capture,
+    read_script, run_end, walk_both,
 };
 use script::{Settings, Watch};
 use std::alloc::{Allocator, Global};
@@ -36,20 +36,24 @@ fn asked_to(until: Option<u128>, from: u128, to: u128) -> u128
     }
 }
 
-/// Runs on to the moment that the settings give, or where they give none until no frame can start any more; and then to
-/// the end of the picture, and writes it.
-fn draw_end_of_both<W: Write>(drawn: &mut Drawn, writer: &mut W) -> Result<(), WriteFault>
-    requires { is_too_late drawn.old.settings.until ≡ false }
-    ensures { let s = drawn.old.settings in let o = drawn.old.options in
+/// Runs on to the moment that the settings of the run give, or where they give none until no frame can start any more;
+/// and then to the end of the picture, and writes it.
+fn draw_end_of_both<W: Write>(
+    drawn: &mut Drawn,
+    settings: Settings,
+    writer: &mut W,
+) -> Result<(), WriteFault>
+    requires { is_too_late settings.until ≡ false }
+    ensures { let o = drawn.old.options in
         ForSomeBands
-        (λ b. BandsTo (Some (run_end s.until)) s o drawn.old.port.port
+        (λ b. BandsTo (Some (run_end settings.until)) settings o drawn.old.port.port
         drawn.old.course drawn.old.bands b
         × Writes result (W.contents writer.old) (W.contents writer.new)
-        (picture_to (Some (run_end s.until)) s o drawn.old.port.port
+        (picture_to (Some (run_end settings.until)) settings o drawn.old.port.port
         drawn.old.course b)) }
 {
     let from = drawn.port.now();
-    let until = drawn.settings.until();
+    let until = settings.until();
     run_on(&mut drawn.port, &mut drawn.course, Some(run_end(until)));
     let asked = asked_to(until, from, drawn.port.now());
     draw_ended(
@@ -57,7 +61,7 @@ fn draw_end_of_both<W: Write>(drawn: &mut Drawn, writer: &mut W) -> Result<(), W
         &mut drawn.bands,
         &mut drawn.course,
         writer,
-        drawn.settings,
+        settings,
         drawn.options,
         asked,
     )
@@ -65,31 +69,33 @@ fn draw_end_of_both<W: Write>(drawn: &mut Drawn, writer: &mut W) -> Result<(), W
 
 /// Draws the run of a kept script and of the records of a capture, of which nothing is drawn yet.
 fn draw_both<B: Allocator, C: Allocator, R: Read, W: Write, H: Watch>(
-    drawn: &mut Drawn,
+    drawn: &mut ByEvents<Drawn>,
     script: &KeptScript<B>,
     records: &mut CaptureReader<R, C>,
     writer: &mut W,
     watch: &mut H,
 ) -> Result<(), ReplayFault>
-    requires until { is_too_late drawn.old.settings.until ≡ false }
+    requires until { is_too_late drawn.old.taker.settings.until ≡ false }
     requires begun { (left records.old).ended ≡ None }
     requires first { (left records.old).number ≡ 0 }
-    requires place { drawn_place drawn.old ≡ first_place drawn.old.settings drawn.old.options }
-    requires sound { IsSoundPort drawn.old.port.port }
+    requires place { drawn_place drawn.old.taker
+        ≡ first_place drawn.old.taker.settings drawn.old.taker.options }
+    requires sound { IsSoundPort drawn.old.taker.port.port }
     ensures { (read : List (List ℕ) → Result Command TcFault) → IsReader read →
         (entries : List Entry) (last : End) → Comes R.remaining (left records.old) entries last →
         ForSomeBands
         (λ bands. WhereWhole result
-        (BandsOfBoth drawn.old.settings drawn.old.options
+        (BandsOfBoth drawn.old.taker.settings drawn.old.taker.options
         (kept_requests read script.now.octets.items script.now.lines.items) entries bands)
         × IsDrawnWhole result (W.contents writer.old) (W.contents writer.new)
-        (picture_read drawn.old.settings drawn.old.options
+        (picture_read drawn.old.taker.settings drawn.old.taker.options
         (kept_requests read script.now.octets.items script.now.lines.items)
         (Ok (entries, last)) bands)) }
 {
     settling();
+    let settings = drawn.taker.settings;
     let broken = walk_both(drawn, script, records, None, &mut (), watch)?;
-    draw_end_of_both(drawn, writer)?;
+    draw_end_of_both(&mut drawn.taker, settings, writer)?;
     ended_by(broken)
 }
 
@@ -124,6 +130,7 @@ pub fn draw_capture<R: Read + Drop, S: Read + Drop, W: Write, H: Watch>(
     }
     let script = read_script(&alloc, script, watch)?;
     let mut records = open_capture(&alloc, capture)?;
-    let mut drawn = new_drawn(&alloc, settings, options)?;
+    let taker = new_drawn(&alloc, settings, options)?;
+    let mut drawn = ByEvents { taker };
     draw_both(&mut drawn, &script, &mut records, writer, watch)
 }

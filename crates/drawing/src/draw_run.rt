@@ -1,16 +1,16 @@
 //! Runs a script, and draws what happens.
 
-ghost use Rattle.std.specs.Prelude.{◌≡◌, ◌≤◌, ◌+◌, ◌*◌, ◌↔◌, ℕ, IfOk, IfSome, IsTrue, List, MatchOption, Ok, OnOk, Result, Some, true};
+ghost use Rattle.std.specs.Prelude.{◌≡◌, ◌≤◌, ◌+◌, ◌*◌, ◌↔◌, ℕ, IfOk, IfSome, IsTrue, List, MatchOption, Ok, Result, Some, true};
 ghost use Rattle.text.specs.Words.{words_of};
 ghost use Rattle.script.specs.Answered.{HasFewVisits};
 ghost use Rattle.script.specs.Responses.{responses_to};
 ghost use Rattle.wire_time.specs.Moment.{greatest_lead};
-ghost use Rattle.drawing.specs.Words.{installs, settled, answers_to, IsSoundPort, greatest_moment, Command, script_left, IsReader, TcFault, reading_of, request_of, tc_request, seen_at, ForSomeBands, IsDrawnFrom, MOST_SHAPES, bands_to, course_on, last_moment, picture_after, port_on, Takes, TakesLine, seen_by};
+ghost use Rattle.drawing.specs.Words.{installs, settled, answers_to, IsSoundPort, greatest_moment, Command, script_left, IsReader, TcFault, reading_of, tc_request, seen_at, ForSomeBands, IsDrawnFrom, MOST_SHAPES, bands_to, course_on, last_moment, picture_after, port_on, seen_by};
 ghost use Rattle.text.specs.Script.{script_of};
 ghost use Rattle.abstract_port.specs.AbstractPort.{new_port};
 ghost use Rattle.text.specs.Writes.{Writes};
 ghost use Rattle.wire_time.specs.Wire.{lead_of};
-ghost use Rattle.drawing.specs.Followed.{BandsAfter, BandsAtEnd, BandsBy, BandsOfLine, BandsOn, BandsShown, EndBands, FollowedAndEnded, IsFollowed, first_bands, MayBegin, MayGo, Shows, given, given_to};
+ghost use Rattle.drawing.specs.Followed.{BandsAtEnd, BandsBy, BandsOn, BandsShown, EndBands, FollowedAndEnded, IsFollowed, first_bands, MayBegin, MayGo, Shows, given, given_to};
 ghost use Rattle.drawing.specs.declared.options.DrawOptions.{DrawOptions};
 ghost use Rattle.drawing.specs.Picture.{fitted_text};
 ghost use Rattle.drawing.specs.PictureEnd.{end_text, first_course, page_of, shown_text};
@@ -19,6 +19,7 @@ ghost use Rattle.abstract_port.specs.declared.Event.TheVariants.{Clock, Install}
 ghost use Rattle.drawing.specs.Course.{asked_at, class_at, cycle_at, cycle_in, ended_at, no_command};
 
 use crate::course::{Asked, Course};
+use crate::drawn::{Drawn, new_drawn};
 use crate::options::DrawOptions;
 use crate::page::Page;
 use crate::scope::Scope;
@@ -29,9 +30,8 @@ use abstract_port::separation::settling;
 use abstract_port::{Answer, Command, Event, Refused};
 use picture::{Bands, Viewport, cycle_of};
 use port_text::answer_text::WriteFault;
-use script::{
-    BadLine, Failure, RunFault, RunningPort, Said, ScriptFault, Settings, Watch, read_line, read_tc,
-};
+use port_text::tc_reader::CommandPlace;
+use script::{Failure, RunFault, RunningPort, Settings, Watch, read_tc_into, walk};
 use std::alloc::{AllocError, Allocator, Global};
 use std::io::{Read, Write};
 use text::line_reader::LineReader;
@@ -130,7 +130,7 @@ fn follow_to<A: Allocator>(bands: &mut Bands<A>, view: View, now: u128)
 }
 
 /// The bands go on to where the port is.
-fn follow<A: Allocator>(port: &RunningPort<A>, bands: &mut Bands<A>, view: View)
+pub(crate) fn follow<A: Allocator>(port: &RunningPort<A>, bands: &mut Bands<A>, view: View)
     ensures { IsFollowed view port.now.port.now bands.old bands.new }
 {
     follow_to(bands, view, port.now());
@@ -225,8 +225,9 @@ pub(crate) fn take_asked<A: Allocator>(
 }
 
 /// Takes the line of this number, which begins with `tc`. One that changes nothing isn't drawn, and who watches is
-/// called for it.
+/// called for it. The command is read into a place that is kept from line to line.
 pub(crate) fn take_tc<A: Allocator, H: Watch>(
+    place: &mut CommandPlace,
     port: &mut RunningPort<A>,
     bands: &mut Bands<A>,
     course: &mut Course<A>,
@@ -249,85 +250,15 @@ pub(crate) fn take_tc<A: Allocator, H: Watch>(
 {
     // For the prover: a call on a port says what holds of every port.
     let _now = port.now();
-    match read_tc(line) {
-        Err(fault) => watch.command_failed(number, line, Failure::Malformed(fault)),
+    read_tc_into(line, place);
+    match &place.answer {
+        Err(fault) => watch.command_failed(number, line, Failure::Malformed(*fault)),
         Ok(command) => {
-            if let Err(why) = take_command(port, bands, course, &command, settings) {
+            if let Err(why) = take_command(port, bands, course, command, settings) {
                 watch.command_failed(number, line, Failure::Refused(why));
             }
         }
     }
-}
-
-/// Takes what the line of this number says, if it says something. Who watches is called for a line that begins with
-/// `tc` and changes nothing, and for one with a fault.
-fn take_line<A: Allocator, H: Watch>(
-    port: &mut RunningPort<A>,
-    bands: &mut Bands<A>,
-    course: &mut Course<A>,
-    number: u32,
-    line: &[u8],
-    settings: Settings,
-    options: DrawOptions,
-    watch: &mut H,
-) -> Result<(), ScriptFault>
-    ensures taken { (read : List (List ℕ) → Result Command TcFault) → IsReader read →
-        TakesLine result
-        (request_of read line.now) port.old.port course.old port.new.port course.new }
-    ensures bands { (read : List (List ℕ) → Result Command TcFault) → IsReader read →
-        BandsOfLine settings options
-        (request_of read line.now) port.old.port course.old bands.old bands.new }
-    ensures sound { IsSoundPort port.new.port }
-    ensures few { HasFewVisits port.old.port port.old port.new }
-{
-    // For the prover: a call on a port says what holds of every port.
-    let _now = port.now();
-    match read_line(line) {
-        Err(fault) => {
-            watch.line_failed(line);
-            return Err(fault);
-        }
-        Ok(None) => watch.line_skipped(number, line),
-        Ok(Some(Said::Asked(event))) => {
-            take_asked(port, bands, course, &event, settings, options);
-        }
-        Ok(Some(Said::Tc)) => take_tc(port, bands, course, number, line, settings, watch),
-    }
-    Ok(())
-}
-
-/// Runs the lines that are to come.
-fn take_lines<A: Allocator, B: Allocator, R: Read + Drop, H: Watch>(
-    port: &mut RunningPort<A>,
-    bands: &mut Bands<A>,
-    course: &mut Course<A>,
-    lines: &mut LineReader<R, B>,
-    settings: Settings,
-    options: DrawOptions,
-    watch: &mut H,
-) -> Result<(), RunFault>
-    ensures taken { (read : List (List ℕ) → Result Command TcFault) → IsReader read →
-        IfSome (script_left R.remaining lines.old)
-        (λ script. Takes result
-        (reading_of read script) port.old.port course.old port.new.port course.new) }
-    ensures bands { (read : List (List ℕ) → Result Command TcFault) → IsReader read →
-        IfSome (script_left R.remaining lines.old)
-        (λ script. OnOk result
-        (BandsAfter settings options
-        (reading_of read script).requests port.old.port course.old bands.old bands.new)) }
-{
-    settling();
-    // For the prover: a call on a port says what holds of every port.
-    let _now = port.now();
-    'lines: while lines.advance()? {
-        let number = lines.line_number();
-        let line = lines.line();
-        match take_line(port, bands, course, number, line, settings, options, watch) {
-            Ok(()) => {}
-            Err(fault) => return Err(RunFault::Input(BadLine::new(number, fault))),
-        }
-    }
-    Ok(())
 }
 
 /// The run goes on to a moment, in picoseconds, where one is given that isn't past.
@@ -451,43 +382,43 @@ pub(crate) fn draw_ended<A: Allocator, W: Write>(
 }
 
 /// Runs on to the moment that the settings give, if they give one, and then to the end of the picture, and writes it.
-fn draw_end<A: Allocator, W: Write>(
-    port: &mut RunningPort<A>,
-    bands: &mut Bands<A>,
-    course: &mut Course<A>,
-    writer: &mut W,
-    settings: Settings,
-    options: DrawOptions,
-) -> Result<(), WriteFault>
-    ensures { ForSomeBands
-        (λ b. BandsAtEnd settings options port.old.port course.old bands.old b
+fn draw_end<W: Write>(drawn: &mut Drawn, writer: &mut W) -> Result<(), WriteFault>
+    ensures { let s = drawn.old.settings in let o = drawn.old.options in
+        ForSomeBands
+        (λ b. BandsAtEnd s o drawn.old.port.port drawn.old.course drawn.old.bands b
         × Writes result (W.contents writer.old) (W.contents writer.new)
-        (picture_after settings options port.old.port course.old b)) }
+        (picture_after s o drawn.old.port.port drawn.old.course b)) }
 {
-    run_on(port, course, settings.until());
-    let asked = port.now();
-    draw_ended(port, bands, course, writer, settings, options, asked)
+    run_on(&mut drawn.port, &mut drawn.course, drawn.settings.until());
+    let asked = drawn.port.now();
+    draw_ended(
+        &mut drawn.port,
+        &mut drawn.bands,
+        &mut drawn.course,
+        writer,
+        drawn.settings,
+        drawn.options,
+        asked,
+    )
 }
 
 /// Runs the lines of a script, and writes the picture of what happens.
-fn draw_lines<A: Allocator, B: Allocator, R: Read + Drop, W: Write, H: Watch>(
-    port: &mut RunningPort<A>,
-    bands: &mut Bands<A>,
-    course: &mut Course<A>,
-    lines: &mut LineReader<R, B>,
+fn draw_lines<A: Allocator, R: Read + Drop, W: Write, H: Watch>(
+    drawn: &mut Drawn,
+    lines: &mut LineReader<R, A>,
     writer: &mut W,
-    settings: Settings,
-    options: DrawOptions,
     watch: &mut H,
 ) -> Result<(), RunFault>
+    requires { IsSoundPort drawn.old.port.port }
     ensures { (read : List (List ℕ) → Result Command TcFault) → IsReader read →
         IfSome (script_left R.remaining lines.old)
-        (λ script. IsDrawnFrom settings options
-        (reading_of read script) port.old.port course.old bands.old result (W.contents writer.old)
-        (W.contents writer.new)) }
+        (λ script. IsDrawnFrom drawn.old.settings drawn.old.options
+        (reading_of read script) drawn.old.port.port drawn.old.course drawn.old.bands result
+        (W.contents writer.old) (W.contents writer.new)) }
 {
-    take_lines(port, bands, course, lines, settings, options, watch)?;
-    draw_end(port, bands, course, writer, settings, options)?;
+    settling();
+    walk(drawn, lines, &mut (), watch)?;
+    draw_end(drawn, writer)?;
     Ok(())
 }
 
@@ -501,85 +432,6 @@ pub(crate) fn first_course<A: Allocator + Clone>(
 {
     let view = options.view(Scope::Nothing);
     Course::new(alloc, settings.room(), view, lead_of(settings))
-}
-
-/// Runs the input and writes its picture, with nothing drawn yet.
-fn draw_course<B: Allocator, R: Read + Drop, W: Write, H: Watch>(
-    alloc: &Global,
-    port: &mut RunningPort<Global>,
-    bands: &mut Bands<Global>,
-    lines: &mut LineReader<R, B>,
-    writer: &mut W,
-    settings: Settings,
-    options: DrawOptions,
-    watch: &mut H,
-) -> Result<(), RunFault>
-    ensures { (read : List (List ℕ) → Result Command TcFault) → IsReader read →
-        IfSome (script_left R.remaining lines.old)
-        (λ script. IsDrawnFrom settings options (reading_of read script) port.old.port
-        (first_course settings options) bands.old result (W.contents writer.old)
-        (W.contents writer.new)) }
-{
-    let mut course = first_course(alloc, settings, options)?;
-    draw_lines(
-        port,
-        bands,
-        &mut course,
-        lines,
-        writer,
-        settings,
-        options,
-        watch,
-    )
-}
-
-/// Runs the input and writes its picture, with no bands yet.
-fn draw_bands<B: Allocator, R: Read + Drop, W: Write, H: Watch>(
-    alloc: &Global,
-    port: &mut RunningPort<Global>,
-    lines: &mut LineReader<R, B>,
-    writer: &mut W,
-    settings: Settings,
-    options: DrawOptions,
-    watch: &mut H,
-) -> Result<(), RunFault>
-    ensures { (read : List (List ℕ) → Result Command TcFault) → IsReader read →
-        IfSome (script_left R.remaining lines.old)
-        (λ script. IsDrawnFrom settings options (reading_of read script) port.old.port
-        (first_course settings options) (first_bands options) result (W.contents writer.old)
-        (W.contents writer.new)) }
-{
-    let view = options.view(Scope::Nothing);
-    let mut bands = Bands::new(alloc, view.from, view.to)?;
-    draw_course(
-        alloc, port, &mut bands, lines, writer, settings, options, watch,
-    )
-}
-
-/// Runs the input and writes its picture, on a new port.
-fn draw_port<B: Allocator, R: Read + Drop, W: Write, H: Watch>(
-    alloc: &Global,
-    lines: &mut LineReader<R, B>,
-    writer: &mut W,
-    settings: Settings,
-    options: DrawOptions,
-    watch: &mut H,
-) -> Result<(), RunFault>
-    ensures { (read : List (List ℕ) → Result Command TcFault) → IsReader read →
-        IfSome (script_left R.remaining lines.old)
-        (λ script. IsDrawnFrom settings options (reading_of read script)
-        (new_port settings.rate settings.mtu settings.room) (first_course settings options)
-        (first_bands options) result (W.contents writer.old) (W.contents writer.new)) }
-{
-    let rate = settings.rate();
-    // For the prover: the getter says within which limits a rate lies.
-    let _ps = rate.ps_per_octet();
-    let mtu = settings.mtu();
-    let own = alloc.clone()?;
-    let Ok(mut port) = RunningPort::new(own, rate, mtu, settings.room()) else {
-        return Err(RunFault::Memory);
-    };
-    draw_bands(alloc, &mut port, lines, writer, settings, options, watch)
 }
 
 /// Runs a script to its end, and writes the picture of its run: the text that specs/Picture.antt says, of what the port
@@ -601,5 +453,6 @@ pub fn draw<R: Read + Drop, W: Write, H: Watch>(
         (first_bands options) result (W.contents writer.old) (W.contents writer.new)) }
 {
     let mut lines = LineReader::new(&alloc, reader)?;
-    draw_port(&alloc, &mut lines, writer, settings, options, watch)
+    let mut drawn = new_drawn(&alloc, settings, options)?;
+    draw_lines(&mut drawn, &mut lines, writer, watch)
 }

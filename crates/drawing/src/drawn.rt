@@ -1,17 +1,17 @@
-//! A run that is drawn, and takes what a script and a capture ask.
+//! A run that is drawn, and takes what a script asks.
 
-ghost use Rattle.std.specs.Prelude.{◌≡◌, ◌∷◌, [], ℕ, IfOk, List, Result};
-ghost use Rattle.drawing.specs.Words.{Arrive, Asks, Clock, Command, Draws, IsKept, IsReader, IsSoundPort, TcFault, entry, first_place, frame_of, kept_request, drawn_place};
+ghost use Rattle.std.specs.Prelude.{◌≡◌, IfOk};
+ghost use Rattle.drawing.specs.Words.{IsSoundPort, first_place, drawn_place};
 
 use crate::course::Course;
-use crate::draw_run::{first_course, take_asked, take_tc};
+use crate::draw_run::{first_course, follow, take_asked, take_tc};
 use crate::options::DrawOptions;
 use crate::scope::Scope;
 use abstract_port::Event;
-use capture::{Record, frame_of};
+use job::Halt;
 use picture::Bands;
-use replay::{KeptLine, Stop, Taker};
-use script::{RunningPort, Settings, Watch};
+use port_text::tc_reader::CommandPlace;
+use script::{EventTaker, RunningPort, Settings, Watch, rests};
 use std::alloc::{AllocError, Global};
 
 /// A port that runs, what is drawn of it so far, and its bands; and by what it is drawn.
@@ -62,104 +62,64 @@ pub(crate) fn new_drawn(
     })
 }
 
-/// Takes an event, which is drawn.
-fn take_event(drawn: &mut Drawn, event: &Event<'_>)
-    ensures { Draws (Asks event.now ∷ []) drawn.old drawn.new }
-{
-    take_asked(
-        &mut drawn.port,
-        &mut drawn.bands,
-        &mut drawn.course,
-        event,
-        drawn.settings,
-        drawn.options,
-    );
-}
-
-/// Takes a line of a kept script, whose octets these are, which is drawn. Who watches is called where it begins with
-/// `tc` and changes nothing.
-fn draw_line<H: Watch>(drawn: &mut Drawn, octets: &[u8], line: KeptLine, watch: &mut H)
-    requires { IsKept octets.now line }
-    ensures taken { (read : List (List ℕ) → Result Command TcFault) → IsReader read →
-        Draws (kept_request read octets.now line ∷ []) drawn.old drawn.new }
-    ensures settings { drawn.new.settings ≡ drawn.old.settings }
-{
-    match line {
-        KeptLine::Clock(moment) => take_event(drawn, &Event::Clock(moment)),
-        KeptLine::Query => take_event(drawn, &Event::Query),
-        KeptLine::Count(class) => take_event(drawn, &Event::Count(class)),
-        KeptLine::Tc { start, end, number } => take_tc(
-            &mut drawn.port,
-            &mut drawn.bands,
-            &mut drawn.course,
-            number,
-            &octets[start..end],
-            drawn.settings,
-            watch,
-        ),
-    }
-}
-
-/// Takes the record of a number: a clock event at this moment, in picoseconds, and the arrival of its frame; both are
-/// drawn.
-fn draw_record(drawn: &mut Drawn, moment: u128, number: u32, record: &Record<'_>)
-    ensures { Draws
-        (Asks (Clock moment) ∷ Asks (Arrive (frame_of (entry record.now) number)) ∷ [])
-        drawn.old drawn.new }
-{
-    take_event(drawn, &Event::Clock(moment));
-    let frame = frame_of(record, u64::from(number));
-    take_event(drawn, &Event::Arrive(frame));
-}
-
-impl<W, H: Watch> Taker<W, H> for Drawn {
-    ghost use Rattle.std.specs.Prelude.{◌≡◌, false};
-    ghost use Rattle.std.proofs.Common.{refl};
+impl<W, H: Watch> EventTaker<W, H> for Drawn {
     ghost use Rattle.drawing.specs.Walk.{Draws, draws_both, draws_none};
-    ghost use Rattle.replay.specs.Outcome.{is_too_late};
-    ghost use Rattle.replay.specs.declared.faults.Stop.TheVariants as Stops;
 
-    ghost ready = { λ s. is_too_late s.settings.until ≡ false };
+    ghost took = { λ rs s w h t v k. Draws rs s t };
 
-    ghost took = { λ es rs s w h t v k. Draws rs s t };
+    ghost cut = { λ rs halt s w h t v k. ⊥ };
 
-    ghost cut = { λ es rs stop s w h t v k. stop ≡ Stops.Read };
-
-    fn take_line(
-        &mut self,
-        octets: &[u8],
-        line: KeptLine,
-        _out: &mut W,
-        watch: &mut H,
-    ) -> Result<(), Stop> {
-        draw_line(self, octets, line, watch);
+    fn take_event(&mut self, event: &Event<'_>, _out: &mut W, _watch: &mut H) -> Result<(), Halt> {
+        take_asked(
+            &mut self.port,
+            &mut self.bands,
+            &mut self.course,
+            event,
+            self.settings,
+            self.options,
+        );
         Ok(())
     }
 
-    fn take_record(
+    fn take_tc(
         &mut self,
-        moment: u128,
+        place: &mut CommandPlace,
         number: u32,
-        record: &Record<'_>,
+        line: &[u8],
         _out: &mut W,
         watch: &mut H,
-    ) -> Result<(), Stop> {
-        draw_record(self, moment, number, record);
-        watch.records_taken(number.saturating_add(1), moment);
+    ) -> Result<(), Halt> {
+        take_tc(
+            place,
+            &mut self.port,
+            &mut self.bands,
+            &mut self.course,
+            number,
+            line,
+            self.settings,
+            watch,
+        );
         Ok(())
     }
 
-    fn let_out(&mut self, _out: &mut W, _watch: &mut H) -> Result<(), Stop> {
+    fn rests(&mut self, event: &Event<'_>) -> bool {
+        if !rests(&mut self.port, event) {
+            return false;
+        }
+        let view = self.options.view(self.course.scope());
+        follow(&self.port, &mut self.bands, view);
+        true
+    }
+
+    fn waits(&mut self, _out: &mut W) -> Result<(), Halt> {
         Ok(())
     }
 
-    ghost nothing = { λ es s w h. draws_none s };
+    ghost nothing = { λ s w h. draws_none s };
 
-    ghost both = { λ es xs ys s t u w v x h k l. draws_both xs ys s t u };
+    ghost both = { λ xs ys s t u w v x h k l. draws_both xs ys s t u };
 
-    ghost cut_later = { λ es xs ys stop s t u w v x h k l taken stopped. stopped };
+    ghost cut_later = { λ xs ys halt s t u w v x h k l taken stopped. stopped };
 
-    ghost cut_sooner = { λ es xs ys stop s t w v h k stopped. stopped };
-
-    ghost cut_unread = { λ es xs ys s t w v h k taken. refl };
+    ghost untold = { λ s w h k told. draws_none s };
 }

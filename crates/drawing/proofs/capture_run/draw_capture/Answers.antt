@@ -32,9 +32,9 @@ returns-in_err-records-clause-picture g c = λ read is. (
     let given = rw known at c.in_ok-script.ensures.script read is in
     subst (λ r. IsDrawnBeside read s o lines records r old old) (sym (p.1 ∙ ap Err p.2)) (header_refused read s o lines records late octets reads given.0 (g.S.Read.remaining c.args.capture) known' c.in_err-records.field-0.0 old c.in_err-records.ensures.fault))))
 
-pub returns-in_err-drawn-clause-picture : goal.returns-in_err-drawn-clause-picture
-returns-in_err-drawn-clause-picture g c = λ read is. (
-    let p = err_from_is_err_and c.from_residual-in_err-drawn.result c.from_residual-in_err-drawn.ensures.1 in
+pub returns-in_err-taker-clause-picture : goal.returns-in_err-taker-clause-picture
+returns-in_err-taker-clause-picture g c = λ read is. (
+    let p = err_from_is_err_and c.from_residual-in_err-taker.result c.from_residual-in_err-taker.ensures.1 in
     when_known (g.R.Read.remaining c.args.script) _ (λ lines known. when_known (g.S.Read.remaining c.args.capture) _ (λ octets known'. λ records reads.
     nothing_kept read c.args.settings c.args.options lines records (g.W.Write.contents c.args.writer.now) (p.1 ∙ ap Err p.2))))
 
@@ -48,4 +48,4 @@ returns-clause-picture g c = λ read is. (
     let found = opened g.S.Read.remaining (g.S.Read.remaining c.args.capture) (left c.in_ok-records.records) octets records c.in_ok-records.ensures.ok known' reads in
     let comes = comes_new g.S.Read.remaining (g.S.Read.remaining c.args.capture) (left c.in_ok-records.records) octets found.0 found.1 c.in_ok-records.ensures.ok known' (subst (λ (x : Result (List Entry × End) CapFault). ReadsAs octets x) found.2 reads) in
     both_good read s o lines records late c.draw_both.result _ found.0 found.1 (g.W.Write.contents c.args.writer.now) (g.W.Write.contents c.draw_both.new.writer) given.0 given.1 found.2
-    (rw (← c.in_ok-drawn.ensures.settings, ← c.in_ok-drawn.ensures.options) (c.draw_both.ensures read is found.0 found.1 comes)))))
+    (rw (← c.in_ok-taker.ensures.settings, ← c.in_ok-taker.ensures.options) (c.draw_both.ensures read is found.0 found.1 comes)))))

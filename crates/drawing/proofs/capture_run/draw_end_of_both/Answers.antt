@@ -12,7 +12,7 @@ draw_ended-requires g c = (search rules, (search rules, (search rules, c.asked_t
 
 pub returns : goal.returns
 returns g c =
-    let s = c.args.drawn.now.settings in
+    let s = c.args.settings in
     let o = c.args.drawn.now.options in
     let p = c.args.drawn.now.port.port in
     let x = c.args.drawn.now.course in

@@ -11,11 +11,16 @@ draw_ended-requires g c = (search rules, (search rules, (search rules, subst (λ
 
 pub returns : goal.returns
 returns g c =
-    let port = c.run_on.ensures.port ∙ ap (λ (u : Option ℕ). port_on u c.args.port.now.port) c.until.ensures.value in
-    let course = c.run_on.ensures.course ∙ ap (λ (u : Option ℕ). course_on u c.args.port.now.port c.args.course.now) c.until.ensures.value in
+    let s = c.args.drawn.now.settings in
+    let o = c.args.drawn.now.options in
+    let p = c.args.drawn.now.port.port in
+    let x = c.args.drawn.now.course in
+    let d = c.args.drawn.now.bands in
+    let port = c.run_on.ensures.port ∙ ap (λ (u : Option ℕ). port_on u p) c.until.ensures.value in
+    let course = c.run_on.ensures.course ∙ ap (λ (u : Option ℕ). course_on u p x) c.until.ensures.value in
     let asked = c.now-asked.ensures.now ∙ ap (λ (q : AbstractPort). q.now) port in
     let P : List ℕ → Type 0 = λ t. Writes c.draw_ended.result (g.W.Write.contents c.args.writer.now) (g.W.Write.contents c.draw_ended.new.writer) t in
     map_bands (λ bands w. (
-      subst (λ (m : ℕ). BandsShown c.args.options m (course_on c.args.settings.until c.args.port.now.port c.args.course.now) c.args.bands.now bands) asked (subst (λ (x : Course). BandsShown c.args.options c.now-asked.result x c.args.bands.now bands) course w.0),
-      subst P (ap (λ (m : ℕ). end_text c.args.settings c.args.options m c.run_on.new.port.port c.run_on.new.course bands) asked ∙ ap₂ (λ (p : AbstractPort) (x : Course). end_text c.args.settings c.args.options (port_on c.args.settings.until c.args.port.now.port).now p x bands) port course) w.1,
+      subst (λ (m : ℕ). BandsShown o m (course_on s.until p x) d bands) asked (subst (λ (y : Course). BandsShown o c.now-asked.result y d bands) course w.0),
+      subst P (ap (λ (m : ℕ). end_text s o m c.run_on.new.port.port c.run_on.new.course bands) asked ∙ ap₂ (λ (q : AbstractPort) (y : Course). end_text s o (port_on s.until p).now q y bands) port course) w.1,
     )) c.draw_ended.ensures
